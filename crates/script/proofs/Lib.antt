@@ -1,0 +1,4 @@
+pub mod Cutting
+pub mod Fixing
+pub mod Capped
+pub mod Pairs

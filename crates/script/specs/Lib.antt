@@ -1,0 +1,4 @@
+pub mod Words
+pub mod Stepping
+pub mod Numbers
+pub mod Hexadecimal

@@ -1,0 +1,10 @@
+pub mod Walk
+pub mod Judging
+pub mod Framed
+pub mod Pairs
+pub mod Tails
+pub mod Passed
+pub mod Chain
+pub mod Forth
+pub mod Back
+pub mod Readings
