@@ -9,7 +9,7 @@ use wire::lines::LinesIterator;
 use wire::report::Report;
 use wire_write::rewrite::RewriteFault;
 
-pub fn answer(heap: Global, command: Command) -> Result<String, Mistake> {
+pub(crate) fn answer(heap: Global, command: Command) -> Result<String, Mistake> {
     match command {
         Command::Read { bytes } => Ok(read(heap, bytes.as_slice())?),
         Command::Rewrite { bytes, length } => Ok(rewrite(heap, bytes.as_slice(), length)?),

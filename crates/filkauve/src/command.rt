@@ -14,14 +14,14 @@ const LENGTH: usize = 64;
 const LENGTH_LIMIT: u64 = 1000;
 
 #[derive(Drop)]
-pub enum Command {
+pub(crate) enum Command {
     Read { bytes: Vec<u8> },
     Rewrite { bytes: Vec<u8>, length: usize },
 }
 
 // Why a line is no command. The text is the usage of the command that was meant.
 #[derive(Clone, Copy)]
-pub enum Mistake {
+pub(crate) enum Mistake {
     UnknownCommand,
     TooFewWords(&'static str),
     TooManyWords(&'static str),
@@ -31,7 +31,7 @@ pub enum Mistake {
     OutOfMemory,
 }
 
-pub impl fmt::Display for Mistake as MistakeDisplay {
+pub(crate) impl fmt::Display for Mistake as MistakeDisplay {
     fn fmt<W: fmt::Write>(&self, f: &mut fmt::Formatter<W>) -> fmt::Result {
         match self {
             Mistake::UnknownCommand => write!(f, "unknown command; there are read and rewrite"),
@@ -48,13 +48,13 @@ pub impl fmt::Display for Mistake as MistakeDisplay {
     }
 }
 
-pub impl From<AllocError> for Mistake as MistakeFromAlloc {
+pub(crate) impl From<AllocError> for Mistake as MistakeFromAlloc {
     fn from(_e: AllocError) -> Mistake {
         Mistake::OutOfMemory
     }
 }
 
-pub impl<T: Drop> From<Refused<T>> for Mistake as MistakeFromRefused {
+pub(crate) impl<T: Drop> From<Refused<T>> for Mistake as MistakeFromRefused {
     fn from(_e: Refused<T>) -> Mistake {
         Mistake::OutOfMemory
     }
@@ -101,7 +101,7 @@ impl<'a> Arguments<'a> {
 
 impl Command {
     // The command that a line holds; none in a blank line or a comment.
-    pub fn parse(heap: Global, line: &[u8]) -> Result<Option<Command>, Mistake> {
+    pub(crate) fn parse(heap: Global, line: &[u8]) -> Result<Option<Command>, Mistake> {
         if let [b'#', ..] = line {
             return Ok(None);
         }

@@ -1,15 +1,15 @@
 -- The laws of the words of a line.
-use mathlib.Core.Path.{_≡_, refl, sym, ap, subst, _∙_}
+use mathlib.Core.Path.{_≡_, refl, ap, _∙_}
 use mathlib.Core.Bool.{Bool, true, false}
 use mathlib.Core.List.{List, [], _∷_, _++_, append-nil, append-assoc}
-use Prim.Native.Nat.{ℕ, _+_, _-_, _<_}
+use Prim.Native.Nat.{ℕ, _+_, _-_}
 use native.Mathlib.Omega.{arith}
-use lib.ListN.{length, getD, take}
+use lib.ListN.{length, getD}
 use Rattle.std.specs.shelf.Lists.{All, joined, kept-by}
 use Rattle.std.proofs.shelf.Elements.{all-push}
 use Rattle.std.proofs.shelf.Lists.{length-push, getD-push, take-at}
 use Rattle.std.proofs.shelf.Tests.{ne-eqb}
-use Rattle.script.specs.Words.{blank, isBlank, ended, reading, wordsIn, body, wordsOf, Word, WordsOfLine, WordLaws}
+use Rattle.script.specs.Words.{blank, isBlank, ended, reading, wordsIn, body, Word, WordsOfLine, WordLaws}
 use Rattle.script.proofs.Cutting.{begun}
 
 ended-append : (w : List ℕ) (ws vs : List (List ℕ)) → ended w (ws ++ vs) ≡ ended w ws ++ vs
@@ -51,6 +51,7 @@ word-laws = record {
   apart = λ before after b h. apart [] before b after h;
   one = λ w h. solid [] w (h .1) ∙ begun w [] (h .0);
   none = refl;
+  empty = refl;
   return = λ bs. ap wordsIn (body-return bs);
   last = λ bs b h. ap wordsIn (body-last bs b h);
 }

@@ -54,7 +54,9 @@ pub record WordLaws : Type 0 where
   -- bytes without a blank are one word
   pub one : (w : List ℕ) → Word w → wordsIn w ≡ w ∷ []
   -- no bytes have no words
-  pub none : wordsOf [] ≡ []
+  pub none : wordsIn [] ≡ []
+  -- nor has the empty line
+  pub empty : wordsOf [] ≡ []
   -- a CR that ends the line is part of no word
   pub return : (bs : List ℕ) → wordsOf (bs ++ 13 ∷ []) ≡ wordsIn bs
   -- any other last byte is one like the bytes before it

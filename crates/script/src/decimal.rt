@@ -3,6 +3,7 @@ ghost use mathlib.Core.Path.{_≡_};
 ghost use Prim.Native.Nat.{_+_, _*_, min};
 ghost use Rattle.script.specs.Numbers.{digitOf, numberOf, NumberLaws};
 
+// The value of a decimal digit.
 fn digit_value(byte: u8) -> Option<u8>
     ensures { λ r. ⌜ r ≡ digitOf byte ⌝ }
 {

@@ -2,14 +2,13 @@
 ghost use mathlib.Core.Path.{_≡_};
 ghost use Prim.Native.Nat.{_≤_};
 ghost use lib.ListN.{length};
-ghost use denote.Ref.{now};
 ghost use Rattle.std.specs.Iters.{gives};
-ghost use Rattle.std.specs.Options.{Cases};
 ghost use Rattle.std.specs.Runs.{EveryRun, Lists};
 ghost use Rattle.std.specs.shelf.Lists.{leading};
 ghost use Rattle.script.specs.Words.{blank, isBlank, body, wordsOf, WordsOfLine, WordLaws};
 ghost use Rattle.script.specs.Stepping.{bytesLeft, wordsLeft, wordSteps};
 
+// A blank separates words.
 fn is_blank(byte: u8) -> bool
     ensures { λ r. ⌜ r ≡ blank byte ⌝ }
 {
@@ -33,10 +32,10 @@ fn front(bytes: &[u8], blanks: bool) -> usize
 fn without_return(line: &[u8]) -> &[u8]
     ensures { λ r. ⌜ now r ≡ body (now (line .entry)) ⌝ }
 {
-    let [front @ .., last] = line else {
+    let [kept @ .., last] = line else {
         return line;
     };
-    if *last == b'\r' { front } else { line }
+    if *last == b'\r' { kept } else { line }
 }
 
 // What is left of a line whose words are handed out from the left.
@@ -46,6 +45,7 @@ pub struct Words<'a> {
 }
 
 impl<'a> Words<'a> {
+    // The words of a line, which comes without its newline.
     pub fn new(line: &'a [u8]) -> Words<'a>
         ensures words { λ r. ⌜ wordsLeft r ≡ wordsOf (now (line .entry)) ⌝ }
         ensures gives { λ r. ⌜ gives wordSteps (λ w. w .now) r (wordsOf (now (line .entry))) ⌝ }

@@ -12,9 +12,13 @@ lineBytes x = x .neighbour ∷ x .figure / 256 ∷ x .figure % 256 ∷ []
 abbrev pub pairBytes : List Line → List ℕ
 pairBytes xs = joined lineBytes xs
 
+-- The figure in two bytes, most significant first.
+abbrev pub figureOf : ℕ → ℕ → ℕ
+figureOf high low = high * 256 + low
+
 -- The lines that bytes hold, three bytes to a line.
 abbrev pub linesOf : List ℕ → List Line
 linesOf [] = []
 linesOf (n ∷ []) = []
 linesOf (n ∷ (h ∷ [])) = []
-linesOf (n ∷ (h ∷ (l ∷ rest))) = record { neighbour = n; figure = h * 256 + l } ∷ linesOf rest
+linesOf (n ∷ (h ∷ (l ∷ rest))) = record { neighbour = n; figure = figureOf h l } ∷ linesOf rest

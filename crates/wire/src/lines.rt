@@ -4,7 +4,7 @@ ghost use mathlib.Core.List.{[], _∷_};
 ghost use lib.ListN.{length};
 ghost use denote.Ref.{now};
 ghost use Rattle.std.specs.Options.{Cases};
-ghost use Rattle.wire.specs.Lines.{linesOf, lineBytes};
+ghost use Rattle.wire.specs.Lines.{linesOf, lineBytes, figureOf};
 
 // A line to a neighbour, with its delay in units of 0.1 ms.
 #[derive(Clone, Copy)]
@@ -41,6 +41,13 @@ impl<'a> Lines<'a> {
     }
 }
 
+// The figure in two bytes, most significant first.
+fn figure(high: u8, low: u8) -> u16
+    ensures { λ r. ⌜ r ≡ figureOf high low ⌝ }
+{
+    high as u16 * 256 + low as u16
+}
+
 pub impl<'a> Iterator for Lines<'a> as LinesIterator {
     type Item = Line;
 
@@ -57,7 +64,7 @@ pub impl<'a> Iterator for Lines<'a> as LinesIterator {
         self.rest = rest;
         Some(Line {
             neighbour: *neighbour,
-            figure: *high as u16 * 256 + *low as u16,
+            figure: figure(*high, *low),
         })
     }
 }

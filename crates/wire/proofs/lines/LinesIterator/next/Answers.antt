@@ -8,4 +8,4 @@ use Rattle.wire.proofs.lines.LinesIterator.next.Needs as need
 pub returns : need.returns
 returns c =
     let three : 3 ≤ length (c .args .self .now .rest .now) = search needs in
-    record { steps = simp take-rest (first-line (c .args .self .now .rest .now) three); goes = search needs }
+    record { steps = simp (take-rest, c .figure .ensures) (first-line (c .args .self .now .rest .now) three); goes = search needs }
