@@ -1,7 +1,13 @@
 // What a command answers, as the text of one line.
+use crate::bench::Bench;
 use crate::command::Command;
 use crate::command::Mistake;
 use crate::command::MistakeFromAlloc;
+use line::making::Refusal;
+use line::messages::Message;
+use line::states::Down;
+use line::states::Record;
+use line::states::Told;
 use script::encode_hex;
 use std::alloc::AllocError;
 use std::alloc::Global;
@@ -9,10 +15,17 @@ use wire::lines::LinesIterator;
 use wire::report::Report;
 use wire_write::rewrite::RewriteFault;
 
-pub(crate) fn answer(heap: Global, command: Command) -> Result<String, Mistake> {
+pub(crate) fn answer(heap: Global, bench: &mut Bench, command: Command) -> Result<String, Mistake> {
     match command {
         Command::Read { bytes } => Ok(read(heap, bytes.as_slice())?),
         Command::Rewrite { bytes, length } => Ok(rewrite(heap, bytes.as_slice(), length)?),
+        Command::Line { slot, neighbour } => Ok(new_line(heap, bench, slot, neighbour)?),
+        Command::Test {
+            slot,
+            message,
+            times,
+        } => test(heap, bench, slot, message, times),
+        Command::Told { slot } => told(heap, bench, slot),
     }
 }
 
@@ -64,5 +77,58 @@ fn rewrite(heap: Global, bytes: &[u8], length: usize) -> Result<String, AllocErr
             let number = fault.number();
             format!(heap, "refused {number}")
         }
+    }
+}
+
+fn new_line(
+    heap: Global,
+    bench: &mut Bench,
+    slot: u8,
+    neighbour: u8,
+) -> Result<String, AllocError> {
+    match Down::new(slot, neighbour) {
+        Ok(down) => {
+            bench.keep(slot, Record::Down(down));
+            format!(heap, "line {slot} down")
+        }
+        Err(refusal) => {
+            let number = refusal.number();
+            format!(heap, "refused {number}")
+        }
+    }
+}
+
+fn test(
+    heap: Global,
+    bench: &mut Bench,
+    slot: u8,
+    message: Message,
+    times: u32,
+) -> Result<String, Mistake> {
+    let record = bench.take(slot)?.repeated(message, times);
+    let state = state_name(&record);
+    bench.keep(slot, record);
+    Ok(format!(heap, "line {slot} {state}")?)
+}
+
+fn told(heap: Global, bench: &mut Bench, slot: u8) -> Result<String, Mistake> {
+    match bench.take(slot)?.told() {
+        Told::Notice(up) => {
+            bench.keep(slot, Record::Up(up));
+            Ok(format!(heap, "line {slot} up notice")?)
+        }
+        Told::Same(record) => {
+            let state = state_name(&record);
+            bench.keep(slot, record);
+            Ok(format!(heap, "line {slot} {state}")?)
+        }
+    }
+}
+
+fn state_name(record: &Record) -> &'static str {
+    match record {
+        Record::Down(_) => "down",
+        Record::Ready(_) => "ready",
+        Record::Up(_) => "up",
     }
 }

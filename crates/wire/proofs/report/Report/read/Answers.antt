@@ -49,6 +49,10 @@ returns-in-Break-pairs c =
     (c .in-Continue-age .ensures tt .value) _ (c .in-Break-pairs .ensures tt .value) in
     rw (p .1, p .2) (record { value = h; exactly = no-form (c .args .bytes .now) _ h; part = tt; whole = tt })
 
+-- what a call answered is what it promised
+called : {X : Type 0} (r x y z : X) → r ≡ x → r ≡ y → y ≡ z → x ≡ z
+called r x y z a b c = sym a ∙ b ∙ c
+
 -- the pairs, as far as they are read
 fits : (c : After-of) → (length (c .in-Pairs .pairs .now) ≡ word 13 (c .args .bytes .now)) × (word 13 (c .args .bytes .now) ≤ 24) × (15 + word 13 (c .args .bytes .now) ≤ length (c .args .bytes .now))
 fits c = pairs-fit (c .args .bytes .now) _ (c .in-Pairs .pairs) (c .in-Pairs .is) (c .in-Continue-pairs .ensures tt .value)
@@ -72,7 +76,7 @@ returns-in-Break-check-lines c =
     let h =
     stops-at-lines (c .args .bytes .now) _ (c .in-Continue-origin .ensures tt .value) _ (c .in-Continue-serial .ensures tt .value) _
     (c .in-Continue-age .ensures tt .value) _ (c .in-Continue-pairs .ensures tt .value) (c .in-Break-check-lines .field-0 .0)
-    (sym (c .in-Break-check-lines .was tt) ∙ c .check-lines .ensures ∙ same-lines (need.at·returns-in-Break-check-lines c .After-of)) in
+    (called (c .check-lines .result) _ _ _ (c .in-Break-check-lines .was tt) (c .check-lines .ensures) (same-lines (need.at·returns-in-Break-check-lines c .After-of))) in
     rw (p .1, p .2) (record { value = h; exactly = no-form (c .args .bytes .now) _ h; part = tt; whole = tt })
 
 -- what is left to ask at the end
@@ -85,7 +89,7 @@ at-end : (c : In-Continue-check-lines)
 at-end c same =
     ends (c .args .bytes .now) _ (c .in-Continue-origin .ensures tt .value) _ (c .in-Continue-serial .ensures tt .value) _
     (c .in-Continue-age .ensures tt .value) _ (c .in-Continue-pairs .ensures tt .value)
-    (sym (c .in-Continue-check-lines .was tt) ∙ c .check-lines .ensures ∙ same)
+    (called (c .check-lines .result) _ _ _ (c .in-Continue-check-lines .was tt) (c .check-lines .ensures) same)
 
 pub returns-then-end-bytes : need.returns-then-end-bytes
 returns-then-end-bytes c =

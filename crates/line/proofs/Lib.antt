@@ -1,0 +1,4 @@
+pub mod Lasts
+pub mod Masks
+pub mod Phases
+pub mod Stories

@@ -1,0 +1,5 @@
+pub mod Messages
+pub mod Windows
+pub mod Moves
+pub mod Making
+pub mod Courses

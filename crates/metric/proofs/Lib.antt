@@ -1,0 +1,5 @@
+pub mod PathCosts
+pub mod NumberOrder
+pub mod TwoParts
+pub mod DelayLaws
+pub mod FewestLinesLaws

@@ -1,0 +1,3 @@
+pub mod Priced
+pub mod Floors
+pub mod WorstFirst
