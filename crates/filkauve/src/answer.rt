@@ -3,7 +3,6 @@ use crate::bench::Bench;
 use crate::command::Command;
 use crate::command::Mistake;
 use crate::command::MistakeFromAlloc;
-use line::making::Refusal;
 use line::messages::Message;
 use line::states::Down;
 use line::states::Record;
@@ -11,6 +10,7 @@ use line::states::Told;
 use script::encode_hex;
 use std::alloc::AllocError;
 use std::alloc::Global;
+use wire::fault::ReadFault;
 use wire::lines::LinesIterator;
 use wire::report::Report;
 use wire_write::rewrite::RewriteFault;
@@ -29,14 +29,20 @@ pub(crate) fn answer(heap: Global, bench: &mut Bench, command: Command) -> Resul
     }
 }
 
+fn refused(heap: Global, number: u8) -> Result<String, AllocError> {
+    format!(heap, "refused {number}")
+}
+
+fn refused_at(heap: Global, fault: ReadFault) -> Result<String, AllocError> {
+    let number = fault.question.number();
+    let place = fault.place;
+    format!(heap, "refused {number} at {place}")
+}
+
 fn read(heap: Global, bytes: &[u8]) -> Result<String, AllocError> {
     match Report::read(bytes) {
         Ok(report) => show_report(heap, &report),
-        Err(fault) => {
-            let number = fault.question.number();
-            let place = fault.place;
-            format!(heap, "refused {number} at {place}")
-        }
+        Err(fault) => refused_at(heap, fault),
     }
 }
 
@@ -68,15 +74,8 @@ fn rewrite(heap: Global, bytes: &[u8], length: usize) -> Result<String, AllocErr
             let hex = encode_hex(heap, &buffer[0..written])?;
             format!(heap, "wrote {written} {hex}")
         }
-        Err(RewriteFault::Read(fault)) => {
-            let number = fault.question.number();
-            let place = fault.place;
-            format!(heap, "refused {number} at {place}")
-        }
-        Err(RewriteFault::Write(fault)) => {
-            let number = fault.number();
-            format!(heap, "refused {number}")
-        }
+        Err(RewriteFault::Read(fault)) => refused_at(heap, fault),
+        Err(RewriteFault::Write(fault)) => refused(heap, fault.number()),
     }
 }
 
@@ -91,10 +90,7 @@ fn new_line(
             bench.keep(slot, Record::Down(down));
             format!(heap, "line {slot} down")
         }
-        Err(refusal) => {
-            let number = refusal.number();
-            format!(heap, "refused {number}")
-        }
+        Err(refusal) => refused(heap, refusal.number()),
     }
 }
 
