@@ -19,16 +19,15 @@ use Rattle.wire.proofs.Judging.{stops, goes-on, comes}
 
 module _ (t : Tag) (p : ℕ) (b : List ℕ) where
   pub frame-stops : (e : ReadFault) → Err e ≡ frameOf t p b → Err e ≡ fieldAt t p b
-  unfolding frameOf fieldAt
+  unfolding fieldAt
   frame-stops e h = let k = stops (frameQuestions t p b) (asked (permittedValue t (getD b (p + 3) 0)) question.PermittedValue (p + 3) ∷ []) (valueOf p b) (fieldValue t p b) e (sym h) in sym k
 
   pub frame-goes-on : (v : List ℕ) → Ok v ≡ frameOf t p b
       → fieldAt t p b ≡ cond (permittedValue t (getD b (p + 3) 0)) (Ok (fieldValue t p b)) (Err (record { question = question.PermittedValue; place = p + 3 }))
-  unfolding frameOf fieldAt
+  unfolding fieldAt
   frame-goes-on v h = goes-on (frameQuestions t p b) (asked (permittedValue t (getD b (p + 3) 0)) question.PermittedValue (p + 3) ∷ []) (valueOf p b) v (fieldValue t p b) (sym h)
 
   pub frame-comes : (v : List ℕ) → Ok v ≡ frameOf t p b → valueOf p b ≡ v
-  unfolding frameOf
   frame-comes v h = comes (frameQuestions t p b) (valueOf p b) v (sym h)
 
 -- A value that is no list of pairs has one byte.

@@ -48,7 +48,7 @@ frameQuestions t p b =
     ∷ []
 
 -- The value's bytes, or the first of these questions that is answered no.
-unfoldable pub frameOf : Tag → ℕ → List ℕ → Result (List ℕ) ReadFault
+abbrev pub frameOf : Tag → ℕ → List ℕ → Result (List ℕ) ReadFault
 frameOf t p b = judged (frameQuestions t p b) (valueOf p b)
 
 -- What a value of one byte may be; pairs are asked about one by one, once the origin is known.

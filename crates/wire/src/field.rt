@@ -1,7 +1,8 @@
 // A field of a report: a tag of one byte, a length of two bytes, most significant first, and the value.
 ghost use mathlib.Core.Path.{_≡_};
 ghost use mathlib.Core.Bool.{true};
-ghost use Prim.Native.Nat.{_+_, _≤_};
+ghost use Prim.Native.Nat.{_+_, _%_, _≤_};
+ghost use lib.Dec.{leb};
 ghost use lib.ListN.{length};
 ghost use Rattle.std.specs.Vec.{made};
 ghost use Rattle.wire.specs.Fields.{tagNumber, permittedLength, permittedValue, frameOf, shownFrame, LiesAt, fieldAt, shownField, tagOf, PairsLieAt};
@@ -87,6 +88,16 @@ fn read_frame<'a>(bytes: &'a [u8], place: usize, tag: Tag) -> Result<&'a [u8], R
     Ok(&bytes[start..start + length])
 }
 
+// The age's byte taken apart: the top bit is the retry flag.
+fn age_field<'a>(byte: u8) -> Field<'a>
+    ensures { λ r. ⌜ r ≡ Field.Age (byte % 128) (leb 128 byte) ⌝ }
+{
+    Field::Age {
+        age: byte % 128,
+        retry: byte >= 128,
+    }
+}
+
 // The field at `place`, which has to have the tag. The pairs are looked at where the origin is known, in `Report::read`.
 pub fn read_field<'a>(bytes: &'a [u8], place: usize, tag: Tag) -> Result<Field<'a>, ReadFault>
     ensures value { λ r. ⌜ shownField r ≡ fieldAt tag place (now (bytes .entry)) ⌝ }
@@ -104,10 +115,7 @@ pub fn read_field<'a>(bytes: &'a [u8], place: usize, tag: Tag) -> Result<Field<'
     match tag {
         Tag::Origin => Ok(Field::Origin(byte)),
         Tag::Serial => Ok(Field::Serial(byte)),
-        Tag::Age => Ok(Field::Age {
-            age: byte % 128,
-            retry: byte >= 128,
-        }),
+        Tag::Age => Ok(age_field(byte)),
         Tag::Pairs => Ok(Field::Pairs(value)),
     }
 }

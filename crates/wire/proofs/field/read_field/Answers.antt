@@ -62,10 +62,10 @@ returns-in-Serial c =
 
 pub returns-in-Age : need.returns-in-Age
 returns-in-Age c =
-    record {
-      value =
-          byte-comes (c .args .tag) _ (c .args .place) (c .args .bytes .now) (c .in-Continue-value .value .now) (c .in-Age .is) (c .in-rest .not-Pairs)
+    simp (c .age-field .ensures)
+    (record {
+      value = byte-comes (c .args .tag) _ (c .args .place) (c .args .bytes .now) (c .in-Continue-value .value .now) (c .in-Age .is) (c .in-rest .not-Pairs)
           (c .in-Continue-value .ensures tt .frame) (first (need.at·returns-in-Age c .In-rest)) (c .if-not-permits-value .ensures tt);
       kind = sym (c .in-Age .is);
       part = tt;
-    }
+    })
