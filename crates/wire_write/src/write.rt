@@ -89,7 +89,7 @@ pub fn write_report(report: &Report, out: &mut [u8]) -> Result<usize, WriteFault
 }
 
 // Puts a draft at the start of the buffer, alters nothing behind it, and answers its length. What a report may say reads
-// back as it was meant; a draft that says anything else is written by the same definition, and no reader takes it.
+// back as it was meant; a draft that says anything else is written by the same definition.
 pub fn write_draft(draft: &Draft, out: &mut [u8]) -> Result<usize, WriteFault>
     ensures answer { λ r. ⌜ r ≡ putAnswer (encode (drafted (now (draft .entry)))) (now (out .entry)) ⌝ }
     ensures buffer { λ _. ⌜ now (out .exit) ≡ put (encode (drafted (now (draft .entry)))) (now (out .entry)) ⌝ }
