@@ -9,6 +9,9 @@
 //
 // In specs/: States (the whole database), Taking, Originating. What one entry is, and which report is newer, is the crate
 // entries; that the order of reports does not matter, database_order.
+
+#![tactic(auto)]
+
 mod ageing;
 mod lookup;
 pub mod making;

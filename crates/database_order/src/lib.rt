@@ -4,6 +4,9 @@
 //
 // The functions below are theorems on the rules of taking: no code runs in them. In specs/: Renewal (which entry a report renews),
 // Orders (the order of reports does not matter), Examples (the premise of that can be met, and is needed).
+
+#![tactic(auto)]
+
 ghost use Rattle.database_order.specs.Examples.{Met, Needed};
 ghost use Rattle.database_order.specs.Orders.{OrderFree};
 ghost use Rattle.database_order.specs.Renewal.{Renewal};

@@ -5,6 +5,9 @@
 //   verdicts    what taking a report answers, and the refusals 23 and 24 beside those of reading
 //
 // In specs/: Entries (with when an entry is sound), Freshness, Verdicts.
+
+#![tactic(auto)]
+
 pub mod entry;
 pub mod freshness;
 pub mod verdicts;

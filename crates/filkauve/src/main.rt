@@ -5,6 +5,9 @@
 // bench.rt     what is kept between commands: line records
 //
 // The console parses and prints. All that it answers comes from the proved libraries below it.
+
+#![tactic(auto)]
+
 mod answer;
 mod bench;
 mod command;

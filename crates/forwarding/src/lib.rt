@@ -9,6 +9,9 @@
 // - specs/Going.antt: what holds of it whatever the nodes show
 // - specs/Arrival.antt: what holds of it where all nodes show their routes of one map under one metric
 // - specs/Shown.antt: what trees show
+
+#![tactic(auto)]
+
 pub mod hops;
 pub mod next_hops;
 pub mod trees;

@@ -9,6 +9,9 @@
 //   courses    what a list of messages does: the law of the states stands on its functions
 //   lines      which line a record in Up is of
 // In specs/: Messages (lists of messages), Windows (the mask), Moves (states and events), Making, Courses (the law).
+
+#![tactic(auto)]
+
 pub mod courses;
 pub mod events;
 pub mod lines;

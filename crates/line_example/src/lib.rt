@@ -1,5 +1,8 @@
 // How a box uses line records: what it keeps, what it hands on. The edits in .ci/misuses turn these few lines into misuses
 // that the compiler has to refuse: a record in Down or Ready where one in Up is asked for, a record used twice, a forged one.
+
+#![tactic(auto)]
+
 ghost use Rattle.std.specs.Prelude.{◌≡◌, replicate};
 ghost use Rattle.line.specs.Moves.{shown, after_message, after_messages};
 ghost use Rattle.line_example.specs.Uses.{raisable_line};

@@ -12,6 +12,9 @@
 // - proofs/NumberOrder.antt: what is left to show of a metric that compares costs as numbers
 //
 // A metric of your own stands in a crate of its own, as the crate `metric_example` shows.
+
+#![tactic(auto)]
+
 pub mod cost;
 pub mod delay;
 pub mod fewest_lines;

@@ -10,6 +10,9 @@
 // - src/floor.rt: `Floor`, any metric with a floor under its figures. It draws its laws from that metric's `laws`
 //   (proofs/FloorLaws.antt)
 // - src/worst_first.rt: smallest worst figure first, then fewest lines, which breaks the third law
+
+#![tactic(auto)]
+
 pub mod floor;
 pub mod priced;
 pub mod worst_first;

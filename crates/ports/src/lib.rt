@@ -9,6 +9,9 @@
 // A call after which an own report is due makes it: it answers the report's lines and puts the threshold back, so that nobody can
 // forget to. What one slot holds, and the refusals, are the crate slots. In specs/: Places (the slots beside one another), Held
 // (what the ports hold, as plain numbers), Rows (the lines of an own report), Calls, Closing. The laws over runs are the crate ports_laws.
+
+#![tactic(auto)]
+
 mod asking;
 mod calls;
 mod closing;

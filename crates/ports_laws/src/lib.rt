@@ -1,5 +1,8 @@
 // What holds over any run of calls on a node's ports, from fresh ones on, refused calls included.
 // The calls and what they leave and answer are those of the crate ports (specs/Runs.antt); the laws are in specs/Laws.antt.
+
+#![tactic(auto)]
+
 ghost use Rattle.std.specs.Prelude.{ℕ, List};
 ghost use Rattle.ports.specs.Held.{fresh};
 ghost use Rattle.ports_laws.specs.Laws.{ThresholdKept, SixthReports, SumsOfPeriod};

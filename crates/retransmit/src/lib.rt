@@ -6,6 +6,9 @@
 //
 // In specs/: Timers, Resending (with the law: just those origins are listed whose timer ran out while their report was in force).
 // The timers know nothing of lines: whoever keeps the slots hands in the set of those that a report is sent on.
+
+#![tactic(auto)]
+
 pub mod resending;
 mod setting;
 pub mod timers;

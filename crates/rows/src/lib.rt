@@ -2,6 +2,9 @@
 //
 //   row.rt      the row: made without a line, a line put behind the others, its lines
 //   allowed.rt  whether a row may be the row of a node
+
+#![tactic(auto)]
+
 pub mod allowed;
 pub mod row;
 

@@ -8,6 +8,9 @@
 //
 // The rules stand in specs/: Words.antt (with the laws that fix the words of every line), Stepping.antt (what one
 // call of `next` does), Numbers.antt and Hexadecimal.antt (with the laws that tie reading to writing).
+
+#![tactic(auto)]
+
 pub mod decimal;
 pub mod hex;
 pub mod line;

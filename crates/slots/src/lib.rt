@@ -9,6 +9,9 @@
 //
 // In specs/: Refusals (the numbers, and that the first no decides), Slots (what a slot holds, as plain numbers), Lines (the
 // steps of a line), Thresholds (the rule that decides). The eight slots beside one another are the crate ports.
+
+#![tactic(auto)]
+
 mod deciding;
 pub mod lines;
 pub mod refusal;

@@ -5,6 +5,9 @@
 //   reading.rt  what a map holds: its count, the lines that leave a node, a figure
 //   route.rt    the route to a node, and the tree of a root
 //   changes.rt  the changed count between two trees
+
+#![tactic(auto)]
+
 pub mod changes;
 pub mod making;
 pub mod map;

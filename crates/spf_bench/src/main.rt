@@ -2,6 +2,9 @@
 // of the work can be left out.
 //
 //   map.rt   the map: 64 nodes, 8 lines each
+
+#![tactic(auto)]
+
 mod map;
 
 use map::full_map;

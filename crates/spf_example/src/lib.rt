@@ -4,6 +4,9 @@
 //   paths.rt    the least cost of each node, from every path there is
 //   rules.rt    distances, parents and next hops as the rules word them
 //   tests.rt    the maps, for the two metrics of the node and for a foreign one
+
+#![tactic(auto)]
+
 #[cfg(test)]
 mod paths;
 #[cfg(test)]

@@ -1,5 +1,8 @@
 // What holds of every map and every metric that keeps the laws: theorems (specs/Theorems.antt), as promises of functions
 // that do nothing.
+
+#![tactic(auto)]
+
 ghost use Rattle.spf_laws.specs.Theorems.{Everywhere, Reckons, OneRoute, Searches, Forwarding};
 
 // What is reckoned are the routes.

@@ -5,6 +5,9 @@
 // - src/nearest.rt: which node is settled next
 // - src/settle.rt: settling a node, and the offers of its lines
 // - src/tree.rt: the tree
+
+#![tactic(auto)]
+
 mod begin;
 mod nearest;
 mod search;

@@ -11,6 +11,9 @@
 //
 // A call that has no answer answers None: each has one reason for it, so that the caller knows which.
 // The rules are in specs/, in the order of its Lib.antt; Periods has the laws over all delays of a period.
+
+#![tactic(auto)]
+
 mod circuit;
 mod delay;
 mod ranges;

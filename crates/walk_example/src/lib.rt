@@ -2,6 +2,9 @@
 //
 //   maps.rt    the maps
 //   walks.rt   walks cost the distance, for the two metrics of the node
+
+#![tactic(auto)]
+
 #[cfg(test)]
 mod maps;
 #[cfg(test)]

@@ -8,6 +8,9 @@
 // What a reader has to believe stands in specs/: Faults (the first no decides), Lines, Fields and Reports (what bytes say,
 // and the questions in their order), Form (the one form of a report as bytes), Laws (bytes that read, and the form of what
 // they say, are the same thing). Writing is the crate wire_write.
+
+#![tactic(auto)]
+
 pub mod fault;
 pub mod field;
 pub mod lines;

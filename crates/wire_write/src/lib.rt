@@ -5,5 +5,8 @@
 //
 // specs/Putting says what a writing answers and leaves in the buffer, specs/Rewriting the same of a rewriting. The form of a
 // report as bytes is wire's.
+
+#![tactic(auto)]
+
 pub mod rewrite;
 pub mod write;

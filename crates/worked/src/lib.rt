@@ -1,4 +1,7 @@
 // What was reckoned by hand, computed from the definitions: one table (specs/Table.antt) under one statement.
+
+#![tactic(auto)]
+
 ghost use Rattle.worked.specs.Agreement.{Agree};
 ghost use Rattle.worked.specs.Table.{table};
 
