@@ -3,7 +3,7 @@ use Rattle.std.proofs.Common.{◌≡◌, ℕ, ◌+◌, ◌-◌, ◌*◌, ◌/◌
 use native.Mathlib.Nat.{div-add-mod}
 use Rattle.std.specs.Option.{option_map}
 use Rattle.std.specs.List.{AllByRecursion as All}
-use Rattle.std.proofs.iter.runs.Lists.{none_some, same_Some}
+use Rattle.std.proofs.iter.runs.Lists.{none-some, same_Some}
 use Rattle.std.proofs.lemmas.Nat.{div_below, mod_below, div-mul-add, mod-mul-add}
 use Rattle.std.proofs.lemmas.List.{drop_more}
 use Rattle.std.proofs.lemmas.Bool.{ne_eqb, eqb-true}
@@ -76,8 +76,8 @@ digit_forth b d h = grind (arith, nat_tests)
 
 -- two values that are there
 parts : {X Y Z : Type 0} (f : X → Y → Z) (o : Option X) (p : Option Y) (z : Z) → both f o p ≡ Some z → (x : X) × (y : Y) × (o ≡ Some x) × (p ≡ Some y) × (f x y ≡ z)
-parts f None p z h = absurd (none_some z h)
-parts f (Some x) None z h = absurd (none_some z h)
+parts f None p z h = absurd (none-some z h)
+parts f (Some x) None z h = absurd (none-some z h)
 parts f (Some x) (Some y) z h = (x, y, refl, refl, same_Some (f x y) z h)
 
 byte_forth : (high low b : ℕ) → byte_of high low ≡ Some b → (digit_byte (b / 16) ≡ lower high) × (digit_byte (b % 16) ≡ lower low)
@@ -94,7 +94,7 @@ byte_forth high low b h =
 
 pairs_forth : (word bs : List ℕ) → pairs_of word ≡ Some bs → digits_of bs ≡ map lower word
 pairs_forth [] bs h = ap digits_of (sym (same_Some [] bs h))
-pairs_forth (high ∷ []) bs h = absurd (none_some bs h)
+pairs_forth (high ∷ []) bs h = absurd (none-some bs h)
 pairs_forth (high ∷ (low ∷ word)) bs h =
     let q = parts (λ b more. b ∷ more) (byte_of high low) (pairs_of word) bs h in
     let here = byte_forth high low q.0 q.2 in
@@ -103,10 +103,10 @@ pairs_forth (high ∷ (low ∷ word)) bs h =
 
 dash_forth : (b : ℕ) (bs : List ℕ) (t : Bool) → eqb b 45 ≡ t → bytes_of (b ∷ []) ≡ Some bs → hex_of bs ≡ map lower (b ∷ [])
 dash_forth b bs true e h = let k : Some [] ≡ Some bs = rw e at h in ap hex_of (sym (same_Some [] bs k)) ∙ ap (λ n. lower n ∷ []) (sym (eqb-true b 45 e))
-dash_forth b bs false e h = let k : None ≡ Some bs = rw e at h in absurd (none_some bs k)
+dash_forth b bs false e h = let k : None ≡ Some bs = rw e at h in absurd (none-some bs k)
 
 forth : (word bs : List ℕ) → bytes_of word ≡ Some bs → hex_of bs ≡ map lower word
-forth [] bs h = absurd (none_some bs h)
+forth [] bs h = absurd (none-some bs h)
 forth (b ∷ []) bs h = dash_forth b bs (eqb b 45) refl h
 forth (high ∷ (low ∷ word)) bs h =
     let q = parts (λ b more. b ∷ more) (byte_of high low) (pairs_of word) bs h in

@@ -24,10 +24,10 @@ loop-byte-preserved c =
     let word = c.args.word.now in
     let i = c.loop-byte.byte-index in
     let here = c.loop-byte-test.true in
-    let digit = sym c.in-ok-digit.ensures in
-    let after = 10 * c.loop-byte.value + c.in-ok-digit.digit in
-    let kept = ap (λ v. min (value_after v (drop (i + 1) word)) c.args.largest) c.with-digit-value.ensures in (
-      omega (arith, c.with-digit-value.ensures),
+    let digit = sym c.in_ok-digit.ensures in
+    let after = 10 * c.loop-byte.value + c.in_ok-digit.digit in
+    let kept = ap (λ v. min (value_after v (drop (i + 1) word)) c.args.largest) c.with_digit-value.ensures in (
+      omega (arith, c.with_digit-value.ensures),
       digit_more word i here _ digit ∙ c.loop-byte.invariant.1,
       kept ∙ capped c.args.largest after (drop (i + 1) word)
           ∙ ap (λ v. min v c.args.largest) (value_more word i here c.loop-byte.value _ digit) ∙ c.loop-byte.invariant.2,
@@ -40,7 +40,7 @@ returns c =
     let value = c.loop-byte.value in
     let end : drop c.loop-byte.byte-index word ≡ [] = drop_all c.loop-byte.byte-index word c.loop-byte-test.false in
     let whole = ap (λ bs. min (value_after value bs) largest) (sym end) ∙ c.loop-byte.invariant.2 in
-    let some : 0 < length word = omega (arith, false-eqb _ 0 c.if-is-empty.ensures) in
+    let some : 0 < length word = omega (arith, false-eqb _ 0 c.if-is_empty.ensures) in
     let same : value ≡ min (value_after 0 word) largest = omega (arith, whole, c.loop-byte.invariant.0) in
     record {
       value = ap Some same ∙ sym (taken word largest some (sym c.loop-byte.invariant.1 ∙ ap all_ascii_digits end));

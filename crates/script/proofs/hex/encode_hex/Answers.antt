@@ -5,7 +5,7 @@ use Rattle.script.proofs.hex.encode_hex.Goals as goal
 
 pub returns-in-empty : goal.returns-in-empty
 returns-in-empty c = record {
-  word = subst (λ w. IfOk c.from-str.result (λ s. string_bytes s ≡ w)) (hex_none c.args.bytes.now (omega (arith, ltb-true))) c.from-str.ensures.ok;
+  word = subst (λ w. IfOk c.from_str.result (λ s. string_bytes s ≡ w)) (hex_none c.args.bytes.now (omega (arith, ltb-true))) c.from_str.ensures.ok;
   back = hex_laws.back c.args.bytes.now (All-from_get_or (λ b. b < 256) c.args.bytes.now 0 (λ i _. omega (arith, c.type-inv.bytes i)));
   laws = hex_laws;
 }

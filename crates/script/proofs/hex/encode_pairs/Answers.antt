@@ -13,8 +13,8 @@ loop-byte-preserved c =
     let after = string_bytes c.push-in-loop-byte.new.self in
     digits_more {before = string_bytes c.loop-byte.digits} {between = between} {after = after} {high = encode c.digit.result} {low = encode c.digit-in-loop-byte.result} c.args.bytes.now c.loop-byte.byte-index c.loop-byte-test.true
     (record {
-      first = c.in-ok-push.ensures.bytes;
-      second = c.in-ok-push-2.ensures.bytes;
+      first = c.in_ok-push.ensures.bytes;
+      second = c.in_ok-push-2.ensures.bytes;
       top = c.push.ensures.ascii high.ascii ∙ ap (λ d. d ∷ []) high.value;
       end = c.push-in-loop-byte.ensures.ascii low.ascii ∙ ap (λ d. d ∷ []) low.value;
     })

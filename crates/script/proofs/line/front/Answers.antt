@@ -20,7 +20,7 @@ unlike false true b is h = sym is
 
 pub loop-i-preserved : goal.loop-i-preserved
 loop-i-preserved c =
-    let same = alike c.is-blank.result c.args.blanks (get_or c.args.bytes.now c.loop-i.i 0) c.is-blank.ensures c.if-is-blank-blanks.false in
+    let same = alike c.is_blank.result c.args.blanks (get_or c.args.bytes.now c.loop-i.i 0) c.is_blank.ensures c.if-is_blank-blanks.false in
     omega (arith, c.loop-i.invariant, prefix_len-drop_yes (is_blank c.args.blanks) c.args.bytes.now c.loop-i.i 0 c.loop-i-test.true same)
 
 pub returns-then-is-blank-blanks : goal.returns-then-is-blank-blanks

@@ -14,7 +14,7 @@ returns-in-err-value c =
 
 pub returns-in-Pairs : goal.returns-in-Pairs
 returns-in-Pairs c =
-    let e = c.in-ok-value.ensures in
+    let e = c.in_ok-value.ensures in
     record { value = pairs_come c.args.tag c.args.place c.args.bytes.now _ c.in-Pairs.is e.frame; kind = sym c.in-Pairs.is; part = e.part }
 
 pub overflow-add-place : goal.overflow-add-place

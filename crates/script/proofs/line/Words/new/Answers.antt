@@ -10,8 +10,8 @@ use Rattle.script.proofs.line.Words.new.Goals as goal
 
 pub returns : goal.returns
 returns c =
-    let made : Words = record { rest = c.without-return.result } in
-    let same = ap words_in c.without-return.ensures in
+    let made : Words = record { rest = c.without_return.result } in
+    let same = ap words_in c.without_return.ensures in
     record {
       words = same;
       gives = subst (λ ws. AlwaysYields word_steps (λ w. w.now) made ws) same (listed word_steps (λ w. w.now) words_left (λ s t h. h.0) (λ s w t h. h) made);

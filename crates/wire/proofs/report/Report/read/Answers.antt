@@ -46,15 +46,15 @@ called r x y z a b c = sym a ∙ b ∙ c
 
 -- the pairs, as far as they are read
 fits : (c : After-of) → (length c.in-Pairs.pairs.now ≡ word 13 c.args.bytes.now) × (word 13 c.args.bytes.now ≤ 24) × (15 + word 13 c.args.bytes.now ≤ length c.args.bytes.now)
-fits c = pairs_fit c.args.bytes.now _ c.in-Pairs.pairs c.in-Pairs.is c.in-ok-pairs.ensures.value
+fits c = pairs_fit c.args.bytes.now _ c.in-Pairs.pairs c.in-Pairs.is c.in_ok-pairs.ensures.value
 
 -- the lines that are checked are those that the bytes say
 same_lines : (c : After-of)
     → judge_lines c.in-Origin.origin 0 15 (lines_of c.of.result.rest.now)
     ≡ judge_lines (get_or c.args.bytes.now 3 0) 0 15 (lines_of (value_of 12 c.args.bytes.now))
 same_lines c =
-    let o = origin_is c.args.bytes.now _ c.in-Origin.origin c.in-Origin.is c.in-ok-origin.ensures.value in
-    let p = pairs_are c.args.bytes.now _ c.in-Pairs.pairs c.in-Pairs.is c.in-ok-pairs.ensures.value in
+    let o = origin_is c.args.bytes.now _ c.in-Origin.origin c.in-Origin.is c.in_ok-origin.ensures.value in
+    let p = pairs_are c.args.bytes.now _ c.in-Pairs.pairs c.in-Pairs.is c.in_ok-pairs.ensures.value in
     λ i. judge_lines (sym o i) 0 15 (lines_of ((ap (λ x. x.now) c.of.ensures ∙ sym p) i))
 
 pub check-lines-requires : goal.check-lines-requires
