@@ -9,17 +9,17 @@ free c =
     room c.loop-line.row c.in-Some.line (lines_of c.loop-line.line-iterator.rest.now) _ (lines_of c.args.report.now.pairs.now)
     c.loop-line.invariant.3 c.loop-line.invariant.2 c.in-Some.ensures.steps
 
-pub overflow-cast-line : goal.overflow-cast-line
-overflow-cast-line c = let h = free c in search rules
+pub overflow_cast-line : goal.overflow_cast-line
+overflow_cast-line c = let h = free c in search rules
 
-pub offset-bounds-row-row : goal.offset-bounds-row-row
-offset-bounds-row-row c = let h = free c in search rules
+pub offset_bounds-row-row : goal.offset_bounds-row-row
+offset_bounds-row-row c = let h = free c in search rules
 
 pub bounds-row-row : goal.bounds-row-row
 bounds-row-row c = free c
 
-pub overflow-add-row : goal.overflow-add-row
-overflow-add-row c = let h = free c in search rules
+pub overflow_add-row : goal.overflow_add-row
+overflow_add-row c = let h = free c in search rules
 
 pub loop-line-preserved : goal.loop-line-preserved
 loop-line-preserved c = (

@@ -31,8 +31,8 @@ returns c =
     let ok = sayable db.count c.args.origin c.args.retry e c.args.database.now.range.2 r.0 r.1 force c.in-Some.ensures.sound in
     record {
       answer =
-          sym (ap after_put c.in-ok-length.was) ∙ ap after_put c.write-draft.ensures.answer ∙ ap (λ t. after_put (put_answer (encode t) c.args.out.now)) q
+          sym (ap after_put c.in_ok-length.was) ∙ ap after_put c.write_draft.ensures.answer ∙ ap (λ t. after_put (put_answer (encode t) c.args.out.now)) q
           ∙ answered db c.args.origin c.args.retry e found force c.args.out.now;
-      buffer = c.write-draft.ensures.buffer ∙ ap (λ t. put (encode t) c.args.out.now) q ∙ buffered db c.args.origin c.args.retry e found force c.args.out.now;
-      reads-back = c.in-ok-length.ensures.reads-back (subst Allowed (sym q) ok) ∙ ap Ok (q ∙ says db c.args.origin c.args.retry e found force);
+      buffer = c.write_draft.ensures.buffer ∙ ap (λ t. put (encode t) c.args.out.now) q ∙ buffered db c.args.origin c.args.retry e found force c.args.out.now;
+      reads_back = c.in_ok-length.ensures.reads_back (subst Allowed (sym q) ok) ∙ ap Ok (q ∙ says db c.args.origin c.args.retry e found force);
     }

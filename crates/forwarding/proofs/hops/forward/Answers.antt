@@ -16,9 +16,9 @@ pub loop-at-preserved : goal.loop-at-preserved
 loop-at-preserved g c =
     let small : c.min-limit.result ≤ 64 = omega (arith, c.min-limit.ensures) in
     let less : c.loop-at.made < c.min-limit.result = omega (arith, c.loop-at.invariant.few, c.if-made-limit.false) in
-    let some : 1 ≤ c.next-hop-hop.result = omega (arith, c.if-hop-eq0.false) in
-    let on = hopped small c.loop-at.invariant c.next-hop-hop.result c.if-at-to.false less (sym c.next-hop-hop.ensures) some in
-    subst (λ (i : ℕ). Along (g.N.NextHops.shows c.args.network.now) c.args.to c.min-limit.result c.args.from (set c.loop-at.nodes i c.next-hop-hop.result) (c.loop-at.made + 1) c.next-hop-hop.result) (sym c.from.ensures) on
+    let some : 1 ≤ c.next_hop-hop.result = omega (arith, c.if-hop-eq0.false) in
+    let on = hopped small c.loop-at.invariant c.next_hop-hop.result c.if-at-to.false less (sym c.next_hop-hop.ensures) some in
+    subst (λ (i : ℕ). Along (g.N.NextHops.shows c.args.network.now) c.args.to c.min-limit.result c.args.from (set c.loop-at.nodes i c.next_hop-hop.result) (c.loop-at.made + 1) c.next_hop-hop.result) (sym c.from.ensures) on
 
 pub returns : goal.returns
 returns g c =
@@ -37,7 +37,7 @@ returns g c =
     elim c.if-at-to.branch [
       | then-at-to w ↦ stop Arrived w.end-is (arrived hop to left l.at w.if-at-to.true)
       | else-at-to+then-made-limit w ↦ stop Loop w.end-is (looped hop to left l.at w.if-at-to.false (omega (arith, w.if-made-limit.true)))
-      | else-at-to+else-made-limit+then-hop-eq0 w ↦ stop Lost w.end-is (lost hop to left l.at w.if-at-to.false (omega (arith, w.if-made-limit.false, l.invariant.few)) (sym w.next-hop-hop.ensures ∙ w.if-hop-eq0.true))
+      | else-at-to+else-made-limit+then-hop-eq0 w ↦ stop Lost w.end-is (lost hop to left l.at w.if-at-to.false (omega (arith, w.if-made-limit.false, l.invariant.few)) (sym w.next_hop-hop.ensures ∙ w.if-hop-eq0.true))
     ] in
     let limit_is : limit ≡ min count 64 = c.min-limit.ensures ∙ ap (λ (n : ℕ). min n 64) c.count.ensures in
     let all = held shows count from to (is ∙ ap (λ (n : ℕ). walk_from hop to n from) limit_is) in

@@ -30,4 +30,4 @@ returns c =
     let slots = map shown c.args.slots.now in
     let t = threshold_of c.args.threshold in
     let none = at_drop_all (some_moved t) slots c.loop-i.i (omega (arith, length-map c.args.slots.now shown)) in
-    sym (ap₂ ◌||◌ (sym c.is-zero.ensures ∙ c.if-is-zero.false) (sym c.loop-i.invariant ∙ none))
+    sym (ap₂ ◌||◌ (sym c.is_zero.ensures ∙ c.if-is_zero.false) (sym c.loop-i.invariant ∙ none))

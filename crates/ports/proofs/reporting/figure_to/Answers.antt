@@ -21,7 +21,7 @@ loop-i-preserved c =
     let n = c.args.node in
     let at = get_or-map shown slots c.loop-i.i c.index-slots-i.result unused (omega arith) in
     let h : c.loop-i.i < length (map shown slots) = omega (arith, length-map slots shown) in
-    sym (figure_more (map shown slots) c.loop-i.i h n (ap (figure_for n) at ∙ sym c.in-default.ensures)) ∙ c.loop-i.invariant
+    sym (figure_more (map shown slots) c.loop-i.i h n (ap (figure_for n) at ∙ sym c.in_default.ensures)) ∙ c.loop-i.invariant
 
 pub returns : goal.returns
 returns c =

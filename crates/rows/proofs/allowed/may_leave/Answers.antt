@@ -5,11 +5,11 @@ use Rattle.rows.specs.Rows.{no_line, allowed_line, allowed, figures_fit}
 use Rattle.rows.proofs.Leaving.{passes, fails, fit_on}
 use Rattle.rows.proofs.allowed.may_leave.Goals as goal
 
-pub returns-then-not-may-follow : goal.returns-then-not-may-follow
-returns-then-not-may-follow c =
+pub returns-then-not-may_follow : goal.returns-then-not-may_follow
+returns-then-not-may_follow c =
     let l = c.loop-line in
     let no : allowed_line c.args.count c.args.node l.previous (get_or c.args.lines.now l.line-index no_line) ≡ false =
-    sym c.if-not-may-follow.ensures.value in
+    sym c.if-not-may_follow.ensures.value in
     record {
       value = fails c.args.count c.args.node l.previous c.args.lines.now l.line-index c.loop-line-test.true no ∙ l.invariant.0;
       fits = λ e. absurd (false≢true e);
@@ -19,9 +19,9 @@ pub loop-line-preserved : goal.loop-line-preserved
 loop-line-preserved c =
     let l = c.loop-line in
     let yes : allowed_line c.args.count c.args.node l.previous (get_or c.args.lines.now l.line-index no_line) ≡ true =
-    sym c.if-not-may-follow.ensures.value in (
+    sym c.if-not-may_follow.ensures.value in (
       passes c.args.count c.args.node l.previous c.args.lines.now l.line-index c.loop-line-test.true yes ∙ l.invariant.0,
-      fit_on c.args.lines.now l.line-index c.loop-line-test.true c.may-follow.ensures.fits ∙ l.invariant.1,
+      fit_on c.args.lines.now l.line-index c.loop-line-test.true c.may_follow.ensures.fits ∙ l.invariant.1,
     )
 
 pub returns : goal.returns

@@ -5,17 +5,17 @@ use Rattle.script.specs.Numbers.{value_after, number_of}
 use Rattle.script.proofs.Capped.{capped, digit_more, value_more, stopped, refused, taken, number_laws}
 use Rattle.script.proofs.decimal.number.Goals as goal
 
-pub returns-then-is-empty : goal.returns-then-is-empty
-returns-then-is-empty c = record {
-  value = ap (λ w. number_of w c.args.largest) (sym (nil_from_length c.args.word.now (true-eqb _ 0 c.if-is-empty.ensures)));
+pub returns-then-is_empty : goal.returns-then-is_empty
+returns-then-is_empty c = record {
+  value = ap (λ w. number_of w c.args.largest) (sym (nil_from_length c.args.word.now (true-eqb _ 0 c.if-is_empty.ensures)));
   laws = number_laws c.args.largest;
 }
 
-pub returns-in-err-digit : goal.returns-in-err-digit
-returns-in-err-digit c =
-    let stop = stopped c.args.word.now c.loop-byte.byte-index c.loop-byte-test.true (sym c.in-err-digit.ensures) in
+pub returns-in_err-digit : goal.returns-in_err-digit
+returns-in_err-digit c =
+    let stop = stopped c.args.word.now c.loop-byte.byte-index c.loop-byte-test.true (sym c.in_err-digit.ensures) in
     record {
-      value = c.from-residual.ensures ∙ refused c.args.word.now c.args.largest (sym c.loop-byte.invariant.1 ∙ stop);
+      value = c.from_residual.ensures ∙ refused c.args.word.now c.args.largest (sym c.loop-byte.invariant.1 ∙ stop);
       laws = number_laws c.args.largest;
     }
 

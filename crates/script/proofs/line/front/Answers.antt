@@ -23,9 +23,9 @@ loop-i-preserved c =
     let same = alike c.is_blank.result c.args.blanks (get_or c.args.bytes.now c.loop-i.i 0) c.is_blank.ensures c.if-is_blank-blanks.false in
     omega (arith, c.loop-i.invariant, prefix_len-drop_yes (is_blank c.args.blanks) c.args.bytes.now c.loop-i.i 0 c.loop-i-test.true same)
 
-pub returns-then-is-blank-blanks : goal.returns-then-is-blank-blanks
-returns-then-is-blank-blanks c =
-    let other = unlike c.is-blank.result c.args.blanks (get_or c.args.bytes.now c.loop-i.i 0) c.is-blank.ensures c.if-is-blank-blanks.true in
+pub returns-then-is_blank-blanks : goal.returns-then-is_blank-blanks
+returns-then-is_blank-blanks c =
+    let other = unlike c.is_blank.result c.args.blanks (get_or c.args.bytes.now c.loop-i.i 0) c.is_blank.ensures c.if-is_blank-blanks.true in
     record {
       value = omega (arith, c.loop-i.invariant, prefix_len-drop_no (is_blank c.args.blanks) c.args.bytes.now c.loop-i.i 0 c.loop-i-test.true other);
       within = omega (arith, c.loop-i-test.true);

@@ -7,5 +7,5 @@ bare : (line : List ℕ) → length line ≡ 0 → line ≡ body line
 bare [] h = refl
 bare (b ∷ bs) h = absurd (omega arith)
 
-pub returns-in-default : goal.returns-in-default
-returns-in-default c = bare c.args.line.now (omega (arith, ltb-true))
+pub returns-in_default : goal.returns-in_default
+returns-in_default c = bare c.args.line.now (omega (arith, ltb-true))

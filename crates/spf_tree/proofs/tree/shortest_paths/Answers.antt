@@ -20,7 +20,7 @@ search-requires g c =
     record {
       rooted = (low, high);
       partial = subst⁻¹ (λ (xs : List Route). Partial k m c.args.root (route_at xs))
-          (c.root-alone.ensures ∙ ap (λ (x : ℕ). set (replicate 64 no_route) (c.args.root - 1) (alone x)) c.empty.ensures)
+          (c.root_alone.ensures ∙ ap (λ (x : ℕ). set (replicate 64 no_route) (c.args.root - 1) (alone x)) c.empty.ensures)
           (root_partial k c.laws.ensures m c.sound.ensures c.args.root (low, high));
     }
 

@@ -2,5 +2,5 @@ use Rattle.std.proofs.Common.{refl, rules}
 use Rattle.database.proofs.Kept.{none_heard}
 use Rattle.database.proofs.types.Database.new.Goals as goal
 
-pub invariant-of-result : goal.invariant-of-result
-invariant-of-result c = (search rules, (refl, (none_heard c.args.count c.fresh-fresh.result c.fresh-fresh.ensures, tt)))
+pub invariant_of-result : goal.invariant_of-result
+invariant_of-result c = (search rules, (refl, (none_heard c.args.count c.fresh-fresh.result c.fresh-fresh.ensures, tt)))

@@ -3,8 +3,8 @@ use Rattle.std.proofs.lemmas.List.{length-set}
 use Rattle.database.proofs.Kept.{kept_at, own_sound, serial_range}
 use Rattle.database.proofs.types.Database.originate.Goals as goal
 
-pub invariant-of-self : goal.invariant-of-self
-invariant-of-self c =
+pub invariant_of-self : goal.invariant_of-self
+invariant_of-self c =
     let db = c.args.self.now in
     let r = db.range in
     let s = own_sound db.count db.root _ c.args.row r.1 (sym c.if-not-allowed.ensures.value) (c.allowed.ensures.fits c.if-not-allowed.false) in

@@ -6,11 +6,11 @@ use Rattle.database.proofs.Kept.{kept_at}
 use Rattle.database.proofs.Heard.{heard_sound, origin_within}
 use Rattle.database.proofs.types.Database.settle.Goals as goal
 
-pub invariant-of-self : goal.invariant-of-self
-invariant-of-self c =
+pub invariant_of-self : goal.invariant_of-self
+invariant_of-self c =
     let db = c.args.self.now in
     let q = content c.args.report.now in
-    let s : sound_entry db.count q.header.origin c.entry-of.result ≡ true = ap (sound_entry db.count q.header.origin) c.entry-of.ensures ∙ heard_sound db.count q c.requires.0 c.requires.1 in
+    let s : sound_entry db.count q.header.origin c.entry_of.result ≡ true = ap (sound_entry db.count q.header.origin) c.entry_of.ensures ∙ heard_sound db.count q c.requires.0 c.requires.1 in
     let w = origin_within db.count q c.requires.0 c.requires.1 in (
       db.range,
       (

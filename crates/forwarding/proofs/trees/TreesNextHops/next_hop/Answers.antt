@@ -14,5 +14,5 @@ returns-then-at-eq0 c =
 pub returns : goal.returns
 returns c =
     let trees = c.args.self.now.trees.now in
-    c.hop-in.ensures ∙ ap (λ (t : List Route). (route_at t c.args.to).hop) (tree_at_lem trees c.from-at.result c.if-at-eq0.false)
+    c.hop_in.ensures ∙ ap (λ (t : List Route). (route_at t c.args.to).hop) (tree_at_lem trees c.from-at.result c.if-at-eq0.false)
     ∙ ap (λ (x : ℕ). (shown_by trees x c.args.to).hop) c.from-at.ensures

@@ -9,8 +9,8 @@ use Rattle.ports.proofs.ports.Ports.note.Goals as goal
 pub put-requires : goal.put-requires
 put-requires c =
     let p = c.args.self.now in
-    let old = line_of c.in-ok-port.port in
-    let new = line_of c.in-ok-noted.noted in
-    let at = stands (map shown p.slots) c.args.slot old (sym c.in-ok-port.ensures) in
-    let same = noted_neighbour old new (delay_of c.in-ok-delay.delay) (sym c.in-ok-noted.ensures) in
+    let old = line_of c.in_ok-port.port in
+    let new = line_of c.in_ok-noted.noted in
+    let at = stands (map shown p.slots) c.args.slot old (sym c.in_ok-port.ensures) in
+    let same = noted_neighbour old new (delay_of c.in_ok-delay.delay) (sym c.in_ok-noted.ensures) in
     (at.low, (at.high, place_kept p.count p.root (map shown p.slots) c.args.slot old new p.within p.apart at.there same))

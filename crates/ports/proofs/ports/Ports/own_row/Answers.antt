@@ -9,10 +9,10 @@ use Rattle.ports.specs.Rows.{lines_to, row_of, pushed, Own}
 use Rattle.slots.specs.Slots.{shown}
 use Rattle.ports.proofs.Owning.{owned, space, row_same, row_more}
 use Rattle.ports.proofs.ports.Ports.own_row.Goals as goal
-use Rattle.ports.proofs.ports.Ports.own_row.Goals.{in-Some, in-default}
+use Rattle.ports.proofs.ports.Ports.own_row.Goals.{in-Some, in_default}
 
-pub with-line-row-requires : goal.with-line-row-requires
-with-line-row-requires c =
+pub with_line-row-requires : goal.with_line-row-requires
+with_line-row-requires c =
     let h = space c.args.self.now c.loop-number.number (delay_of c.in-Some.figure) c.loop-number-test.true (sym c.in-Some.ensures) in
     let used = ap (λ (r : Row). r.used) c.loop-number.invariant in
     omega arith
@@ -21,15 +21,15 @@ pub loop-number-preserved : goal.loop-number-preserved
 loop-number-preserved c =
     let p = c.args.self.now in
     let n = c.loop-number.number in
-    elim c.match-figure-to.branch [
+    elim c.match-figure_to.branch [
       | in-Some w ↦
-          let e = sym c.figure-to.ensures ∙ ap (option_map delay_of) w.in-Some.is in
+          let e = sym c.figure_to.ensures ∙ ap (option_map delay_of) w.in-Some.is in
           let h = space p n (delay_of w.in-Some.figure) c.loop-number-test.true e in
           let P : ℕ → Line = λ figure. record { neighbour = n + 1; figure = figure } in
-          w.row-is ∙ w.with-line-row.ensures ∙ ap (λ (f : ℕ). pushed c.loop-number.row (P f)) w.units.ensures.value
+          w.row-is ∙ w.with_line-row.ensures ∙ ap (λ (f : ℕ). pushed c.loop-number.row (P f)) w.units.ensures.value
           ∙ row_more (map shown p.slots) n c.loop-number.row c.loop-number.invariant (delay_of w.in-Some.figure) e h
-      | in-default w ↦
-          let e = sym c.figure-to.ensures ∙ ap (option_map delay_of) w.in-default.is in
+      | in_default w ↦
+          let e = sym c.figure_to.ensures ∙ ap (option_map delay_of) w.in_default.is in
           w.row-is ∙ row_same (map shown p.slots) n c.loop-number.row c.loop-number.invariant e
     ]
 

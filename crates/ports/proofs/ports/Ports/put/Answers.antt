@@ -6,8 +6,8 @@ use Rattle.ports.specs.Places.{Within, Apart}
 use Rattle.ports.proofs.Placing.{put_within, put_apart}
 use Rattle.ports.proofs.ports.Ports.put.Goals as goal
 
-pub invariant-of-self : goal.invariant-of-self
-invariant-of-self c =
+pub invariant_of-self : goal.invariant_of-self
+invariant_of-self c =
     let p = c.args.self.now in
     let i = c.args.number - 1 in
     let m = map-set shown p.slots i c.args.slot in

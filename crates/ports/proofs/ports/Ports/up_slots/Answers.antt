@@ -12,9 +12,9 @@ loop-i-preserved c =
     let h : i < length (map shown slots) = omega (arith, length-map slots shown, c.args.self.now.eight) in
     let at = get_or-map is_up (map shown slots) i unused false h in
     let at' = get_or-map shown slots i c.index-self-i.result unused (omega (arith, c.args.self.now.eight)) in (
-      length-set c.loop-i.up i c.is-up.result ∙ c.loop-i.invariant.0,
-      filled_more (map is_up (map shown slots)) c.loop-i.up i c.is-up.result false (omega (arith, length-map (map shown slots) is_up))
-          (omega (arith, c.loop-i.invariant.0)) c.loop-i.invariant.1 (c.is-up.ensures ∙ sym (at ∙ ap is_up at')),
+      length-set c.loop-i.up i c.is_up.result ∙ c.loop-i.invariant.0,
+      filled_more (map is_up (map shown slots)) c.loop-i.up i c.is_up.result false (omega (arith, length-map (map shown slots) is_up))
+          (omega (arith, c.loop-i.invariant.0)) c.loop-i.invariant.1 (c.is_up.ensures ∙ sym (at ∙ ap is_up at')),
     )
 
 pub returns : goal.returns

@@ -11,8 +11,8 @@ returns-then-slot-lt1 c =
       | inr y ↦ elim y [ inl x ↦ omega arith | inr z ↦ elim z [ inl x ↦ omega arith | inr x ↦ omega arith ] ]
     ])
 
-pub invariant-of-self : goal.invariant-of-self
-invariant-of-self c =
+pub invariant_of-self : goal.invariant_of-self
+invariant_of-self c =
     let ts = c.args.self.now.left in
     let n = c.args.self.now.full in
     let e = single_set c.args.slot c.args.origin ts n c.place.result c.place.ensures.0 c.if-slot-lt1.false c.if-slot-gt8.false c.if-origin-lt1.false c.if-origin-gt64.false in

@@ -25,8 +25,8 @@ loop-origin-preserved c =
     c.lowered.ensures ∙ same (get_or c.loop-origin.left at 0) (get_or ts at 0) c.age.result (age_of (state c.args.database.now) (j + 1)) old c.age.ensures in
     row_more c.args.slot g ts c.loop-origin.left j at c.lowered.result c.requires.0 c.requires.1 few is e c.loop-origin.invariant
 
-pub invariant-of-self : goal.invariant-of-self
-invariant-of-self c =
+pub invariant_of-self : goal.invariant_of-self
+invariant_of-self c =
     let g = lowered_for (state c.args.database.now) in
     let ts = c.args.self.now.left in
     let e = row_all c.args.slot g ts c.loop-origin.left c.loop-origin.origin c.requires.0 c.loop-origin-test.false c.loop-origin.invariant in

@@ -17,8 +17,8 @@ loop-origin-preserved c =
     row_more c.args.slot none c.args.self.now.left c.loop-origin.left j c.place.result 0 c.if-slot-lt1.false c.if-slot-gt8.false c.loop-origin-test.true is refl
     c.loop-origin.invariant
 
-pub invariant-of-self : goal.invariant-of-self
-invariant-of-self c =
+pub invariant_of-self : goal.invariant_of-self
+invariant_of-self c =
     let ts = c.args.self.now.left in
     let e = row_all c.args.slot none ts c.loop-origin.left c.loop-origin.origin c.if-slot-lt1.false c.loop-origin-test.false c.loop-origin.invariant in
     let p = sound (row c.args.slot none ts) _ e (row_low c.args.slot none ts c.args.self.now.low (λ o t l. omega arith)) in

@@ -27,11 +27,11 @@ loop-slot-preserved c =
     let old = column_unread c.args.origin h ts c.loop-slot.left i at c.if-origin-lt1.false c.if-origin-gt64.false few is c.loop-slot.invariant in
     let next : i ≡ i + 1 - 1 = omega arith in
     let e : c.armed.result ≡ h (i + 1) (get_or ts at 0) =
-    c.armed.ensures ∙ (same c.arrived-on.result (arrived_on c.args.arrival (i + 1)) c.args.slots i (i + 1 - 1) (get_or c.loop-slot.left at 0) (get_or ts at 0) c.arrived-on.ensures next old) in
+    c.armed.ensures ∙ (same c.arrived_on.result (arrived_on c.args.arrival (i + 1)) c.args.slots i (i + 1 - 1) (get_or c.loop-slot.left at 0) (get_or ts at 0) c.arrived_on.ensures next old) in
     column_more c.args.origin h ts c.loop-slot.left i at c.armed.result c.if-origin-lt1.false c.if-origin-gt64.false few is e c.loop-slot.invariant
 
-pub invariant-of-self : goal.invariant-of-self
-invariant-of-self c =
+pub invariant_of-self : goal.invariant_of-self
+invariant_of-self c =
     let h = armed_on c.args.slots c.args.arrival in
     let ts = c.args.self.now.left in
     let e = column_all c.args.origin h ts c.loop-slot.left c.loop-slot.slot c.loop-slot-test.false c.loop-slot.invariant in

@@ -10,5 +10,5 @@ zeros k =
       | inr h ↦ let e : get_or (replicate {A = ℕ} 512 0) k 0 ≡ 0 = get_or_past (replicate 512 0) k 0 h in omega arith
     ]
 
-pub invariant-of-result : goal.invariant-of-result
-invariant-of-result c = (refl, (zeros, tt))
+pub invariant_of-result : goal.invariant_of-result
+invariant_of-result c = (refl, (zeros, tt))

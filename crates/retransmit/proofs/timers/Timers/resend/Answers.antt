@@ -42,12 +42,12 @@ returns c =
     let low = c.if-slot-lt1.false in
     let high = c.if-slot-gt8.false in
     let few : db.count ≤ 64 = omega (arith, c.count.ensures.value, c.count.ensures.range) in
-    let n : length xs ≡ c.list-due-listed.result = sym c.list-due-listed.ensures.answer in
-    let put = c.list-due-listed.ensures.listed in
-    let front : take c.list-due-listed.result c.list-due-listed.new.list ≡ xs = ap (take c.list-due-listed.result) put ∙ take_at xs (drop c.list-due-listed.result list) c.list-due-listed.result n in
+    let n : length xs ≡ c.list_due-listed.result = sym c.list_due-listed.ensures.answer in
+    let put = c.list_due-listed.ensures.listed in
+    let front : take c.list_due-listed.result c.list_due-listed.new.list ≡ xs = ap (take c.list_due-listed.result) put ∙ take_at xs (drop c.list_due-listed.result list) c.list_due-listed.result n in
     record {
       answer = ap Ok (sym n) ∙ sym (all_asked db c.args.slot list _ low high long);
-      timers = c.count-down.ensures ∙ sym (ap (λ r. or_else r ts) (all_asked db c.args.slot list _ low high long));
+      timers = c.count_down.ensures ∙ sym (ap (λ r. or_else r ts) (all_asked db c.args.slot list _ low high long));
       listed = put ∙ ap (λ k. xs ++ drop k list) (sym n) ∙ sym (ap (λ r. or_else r list) (all_asked db c.args.slot list _ low high long));
       exactly = rw front (exactly db c.args.slot ts few);
     }

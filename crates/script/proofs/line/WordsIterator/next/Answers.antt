@@ -2,31 +2,31 @@ use Rattle.std.proofs.Common.{◌≡◌, ℕ, ◌-◌, ◌<◌, List, length, ta
 use Rattle.std.proofs.lemmas.List.{take_rest}
 use Rattle.script.proofs.Cutting.{Cut, first, none}
 use Rattle.script.proofs.line.WordsIterator.next.Goals as goal
-use Rattle.script.proofs.line.WordsIterator.next.Goals.{After-is-empty}
+use Rattle.script.proofs.line.WordsIterator.next.Goals.{After-is_empty}
 use Rattle.std.proofs.iter.Next.{firm}
 
 -- the bytes that are left, and the same without the blanks in front
-abbrev left : After-is-empty → List ℕ
+abbrev left : After-is_empty → List ℕ
 left c = c.args.self.now.rest.now
 
-abbrev behind : After-is-empty → List ℕ
+abbrev behind : After-is_empty → List ℕ
 behind c = take (length (left c) - c.front.result) (drop c.front.result (left c))
 
-cut : (c : After-is-empty) → Cut (left c) (behind c) c.split-at.result.0.now c.split-at.result.1.now c.front.result c.front-2.result
+cut : (c : After-is_empty) → Cut (left c) (behind c) c.split_at.result.0.now c.split_at.result.1.now c.front.result c.front-2.result
 cut c = record {
   blanks = c.front.ensures.value;
   behind = take_rest c.args.self.now.rest.now c.front.result;
   solids = c.front-2.ensures.value;
-  front = c.split-at.ensures.front;
-  back = c.split-at.ensures.back;
+  front = c.split_at.ensures.front;
+  back = c.split_at.ensures.back;
 }
 
-pub returns-then-is-empty : goal.returns-then-is-empty
-returns-then-is-empty c =
-    let no : c.front-2.result ≡ 0 = omega (arith, c.split-at.ensures.front-len, true-eqb _ 0 c.if-is-empty.ensures) in
-    record { steps = (ap length (none (cut (goal.at.returns-then-is-empty c).After-is-empty) no), refl); goes = firm (tt) (λ h. search rules) }
+pub returns-then-is_empty : goal.returns-then-is_empty
+returns-then-is_empty c =
+    let no : c.front-2.result ≡ 0 = omega (arith, c.split_at.ensures.front-len, true-eqb _ 0 c.if-is_empty.ensures) in
+    record { steps = (ap length (none (cut (goal.at.returns-then-is_empty c).After-is_empty) no), refl); goes = firm (tt) (λ h. search rules) }
 
 pub returns : goal.returns
 returns c =
-    let some : 0 < length c.split-at.result.0.now = omega (arith, false-eqb _ 0 c.if-is-empty.ensures) in
-    record { steps = first (cut (goal.at.returns c).After-is-empty) some; goes = firm ((tt, tt, omega (arith, c.split-at.ensures.back_len, c.split-at.ensures.front-len))) (λ h. search rules) }
+    let some : 0 < length c.split_at.result.0.now = omega (arith, false-eqb _ 0 c.if-is_empty.ensures) in
+    record { steps = first (cut (goal.at.returns c).After-is_empty) some; goes = firm ((tt, tt, omega (arith, c.split_at.ensures.back_len, c.split_at.ensures.front-len))) (λ h. search rules) }

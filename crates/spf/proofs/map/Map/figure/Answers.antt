@@ -6,10 +6,10 @@ use Rattle.spf.specs.Reading.{shown_figure}
 use Rattle.spf.proofs.Held.{figured_from}
 use Rattle.spf.proofs.map.Map.figure.Goals as goal
 
-pub figure-to-requires : goal.figure-to-requires
-figure-to-requires c =
+pub figure_to-requires : goal.figure_to-requires
+figure_to-requires c =
     let m = c.args.self.now in
-    subst⁻¹ (All (λ (x : Line). 1 ≤ x.figure)) c.lines-from.ensures.value (figured_from m.count m.rows m.allowed c.args.from)
+    subst⁻¹ (All (λ (x : Line). 1 ≤ x.figure)) c.lines_from.ensures.value (figured_from m.count m.rows m.allowed c.args.from)
 
 pub returns : goal.returns
-returns c = c.figure-to.ensures ∙ ap shown_figure (sym (c.lines-from.ensures.figures c.args.to))
+returns c = c.figure_to.ensures ∙ ap shown_figure (sym (c.lines_from.ensures.figures c.args.to))

@@ -11,12 +11,12 @@ use Rattle.spf.proofs.map.Map.new.Goals as goal
 parts : ℕ → List Row → Option Parts
 parts count rows = Some (record { count = count; rows = rows })
 
-pub invariant-of-result : goal.invariant-of-result
-invariant-of-result c = (
+pub invariant_of-result : goal.invariant_of-result
+invariant_of-result c = (
   omega arith,
   (
     omega arith,
-    (subst⁻¹ (λ (rows : List Row). allowed_rows c.args.count 1 rows ≡ true) c.no-rows.ensures (rows_none c.args.count 1 64), tt),
+    (subst⁻¹ (λ (rows : List Row). allowed_rows c.args.count 1 rows ≡ true) c.no_rows.ensures (rows_none c.args.count 1 64), tt),
   ),
 )
 
@@ -27,6 +27,6 @@ returns c =
     let inside : (leb 1 count && leb count 64) ≡ true =
     and_from (leb 1 count) (leb count 64) (le-leb 1 count (omega arith)) (le-leb count 64 (omega arith)) in
     record {
-      value = ap (parts count) c.no-rows.ensures ∙ sym (cond-true (leb 1 count && leb count 64) (parts count (replicate 64 no_row)) None inside);
-      law = (refl, λ u v. ap (λ (rows : List Row). figures rows u v) c.no-rows.ensures ∙ bare 64 u v);
+      value = ap (parts count) c.no_rows.ensures ∙ sym (cond-true (leb 1 count && leb count 64) (parts count (replicate 64 no_row)) None inside);
+      law = (refl, λ u v. ap (λ (rows : List Row). figures rows u v) c.no_rows.ensures ∙ bare 64 u v);
     }

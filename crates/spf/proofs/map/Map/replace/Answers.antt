@@ -5,8 +5,8 @@ use Rattle.spf.specs.Making.{parts_of, is_node}
 use Rattle.spf.proofs.Held.{rows_set, set_here, set_elsewhere}
 use Rattle.spf.proofs.map.Map.replace.Goals as goal
 
-pub invariant-of-self : goal.invariant-of-self
-invariant-of-self c =
+pub invariant_of-self : goal.invariant_of-self
+invariant_of-self c =
     let m = c.args.self.now in
     let low : 1 ≤ c.args.node = omega arith in
     let high : c.args.node ≤ m.count = omega arith in

@@ -8,7 +8,7 @@ use Rattle.spf_tree.proofs.search.Search.nearest.Goals.{then_less, else-less}
 pub loop-place-init : goal.loop-place-init
 loop-place-init g c =
     nearest_first (g.M.Metric.means c.args.metric.now) c.laws.ensures c.args.self.now.routes c.args.self.now.nodes c.requires.costs
-    c.args.self.now.settled c.cost-at-least.result c.cost-at-least.ensures
+    c.args.self.now.settled c.cost_at-least.result c.cost_at-least.ensures
 
 pub loop-place-preserved : goal.loop-place-preserved
 loop-place-preserved g c =
@@ -20,9 +20,9 @@ loop-place-preserved g c =
     let after : from < to = omega (arith, c.loop-place.auto.place) in
     elim c.if-less.branch [
       | then_less w ↦ subst₂ (λ (b : ℕ) (l : ℕ). Nearest k R N from (to + 1) b l) (sym w.best-is) (sym w.least-is)
-          (nearest_take k c.laws.ensures R N c.requires.costs from to c.loop-place.best c.loop-place.least c.cost-at-cost.result after c.loop-place.invariant c.cost-at-cost.ensures (sym c.less.ensures ∙ w.if-less.true))
+          (nearest_take k c.laws.ensures R N c.requires.costs from to c.loop-place.best c.loop-place.least c.cost_at-cost.result after c.loop-place.invariant c.cost_at-cost.ensures (sym c.less.ensures ∙ w.if-less.true))
       | else-less w ↦ subst₂ (λ (b : ℕ) (l : ℕ). Nearest k R N from (to + 1) b l) (sym w.best-is) (sym w.least-is)
-          (nearest_keep k c.laws.ensures R N c.requires.costs from to c.loop-place.best c.loop-place.least c.cost-at-cost.result after c.loop-place.invariant c.cost-at-cost.ensures (sym c.less.ensures ∙ w.if-less.false))
+          (nearest_keep k c.laws.ensures R N c.requires.costs from to c.loop-place.best c.loop-place.least c.cost_at-cost.result after c.loop-place.invariant c.cost_at-cost.ensures (sym c.less.ensures ∙ w.if-less.false))
     ]
 
 pub returns : goal.returns

@@ -19,8 +19,8 @@ bounds-self-settled c =
     let few : c.args.self.now.reached ≤ 64 = queue_few (reached_by c.args.self.now.routes) c.args.self.now.nodes c.args.self.now.reached c.requires.queued in
     omega (arith, c.requires.there, c.requires.waits)
 
-pub overflow-sub-at : goal.overflow-sub-at
-overflow-sub-at c =
+pub overflow_sub-at : goal.overflow_sub-at
+overflow_sub-at c =
     let u : c.from-at.result ≡ get_or c.args.self.now.nodes c.args.place 0 = c.from-at.ensures ∙ c.swap.ensures.by_index.0 0 in
     omega (arith, c.requires.queued.low c.args.place c.requires.there)
 
@@ -29,8 +29,8 @@ bounds-self-at c =
     let u : c.from-at.result ≡ get_or c.args.self.now.nodes c.args.place 0 = c.from-at.ensures ∙ c.swap.ensures.by_index.0 0 in
     omega (arith, c.requires.queued.low c.args.place c.requires.there, c.requires.queued.high c.args.place c.requires.there)
 
-pub hop-of-hop-requires : goal.hop-of-hop-requires
-hop-of-hop-requires c =
+pub hop_of-hop-requires : goal.hop_of-hop-requires
+hop_of-hop-requires c =
     let u : c.from-at.result ≡ get_or c.args.self.now.nodes c.args.place 0 = c.from-at.ensures ∙ c.swap.ensures.by_index.0 0 in
     subst⁻¹ (λ (x : Route). x.parent ≤ 64) (listed_route c.args.self.now.routes c.args.self.now.nodes c.args.self.now.reached c.args.place c.from-at.result c.requires.queued c.requires.there u) c.requires.parent
 
@@ -49,6 +49,6 @@ returns c =
       settled = refl;
       reached = refl;
       costs = refl;
-      routes = hop_written c.args.self.now.routes c.args.root c.from-at.result (get_or c.swap.new.self c.args.self.now.settled 0) c.hop-of-hop.result (get_or c.args.self.now.routes (c.from-at.result - 1) no_route) c.from-at.ensures
-          (listed_route c.args.self.now.routes c.args.self.now.nodes c.args.self.now.reached c.args.place c.from-at.result c.requires.queued c.requires.there u ∙ ap (route_at c.args.self.now.routes) (sym (p.0 0))) c.hop-of-hop.ensures;
+      routes = hop_written c.args.self.now.routes c.args.root c.from-at.result (get_or c.swap.new.self c.args.self.now.settled 0) c.hop_of-hop.result (get_or c.args.self.now.routes (c.from-at.result - 1) no_route) c.from-at.ensures
+          (listed_route c.args.self.now.routes c.args.self.now.nodes c.args.self.now.reached c.args.place c.from-at.result c.requires.queued c.requires.there u ∙ ap (route_at c.args.self.now.routes) (sym (p.0 0))) c.hop_of-hop.ensures;
     }

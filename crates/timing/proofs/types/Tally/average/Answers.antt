@@ -3,11 +3,11 @@ use Rattle.std.proofs.Common.{◌<◌, arith, rules}
 use Rattle.timing.proofs.Means.{mean_low, mean_high, mean_whole}
 use Rattle.timing.proofs.types.Tally.average.Goals as goal
 
-pub overflow-cast-result : goal.overflow-cast-result
-overflow-cast-result c = let some : 0 < c.args.self.count = omega arith in omega (arith, mean_high c.args.self some)
+pub overflow_cast-result : goal.overflow_cast-result
+overflow_cast-result c = let some : 0 < c.args.self.count = omega arith in omega (arith, mean_high c.args.self some)
 
-pub invariant-of-result : goal.invariant-of-result
-invariant-of-result c =
+pub invariant_of-result : goal.invariant_of-result
+invariant_of-result c =
     let some : 0 < c.args.self.count = omega arith in
     rw c.mean.ensures (mean_low c.args.self some, (mean_high c.args.self some, tt))
 
