@@ -23,10 +23,10 @@ cut c = record {
 
 pub returns-then-is_empty : goal.returns-then-is_empty
 returns-then-is_empty c =
-    let no : c.front-2.result ≡ 0 = omega (arith, c.split_at.ensures.front-len, true-eqb _ 0 c.if-is_empty.ensures) in
+    let no : c.front-2.result ≡ 0 = omega (arith, c.split_at.ensures.front_len, true-eqb _ 0 c.if-is_empty.ensures) in
     record { steps = (ap length (none (cut (goal.at.returns-then-is_empty c).After-is_empty) no), refl); goes = firm (tt) (λ h. search rules) }
 
 pub returns : goal.returns
 returns c =
     let some : 0 < length c.split_at.result.0.now = omega (arith, false-eqb _ 0 c.if-is_empty.ensures) in
-    record { steps = first (cut (goal.at.returns c).After-is_empty) some; goes = firm ((tt, tt, omega (arith, c.split_at.ensures.back_len, c.split_at.ensures.front-len))) (λ h. search rules) }
+    record { steps = first (cut (goal.at.returns c).After-is_empty) some; goes = firm ((tt, tt, omega (arith, c.split_at.ensures.back_len, c.split_at.ensures.front_len))) (λ h. search rules) }

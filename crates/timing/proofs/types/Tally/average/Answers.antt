@@ -9,7 +9,7 @@ overflow_cast-result c = let some : 0 < c.args.self.count = omega arith in omega
 pub invariant_of-result : goal.invariant_of-result
 invariant_of-result c =
     let some : 0 < c.args.self.count = omega arith in
-    rw c.mean.ensures (mean_low c.args.self some, (mean_high c.args.self some, tt))
+    rw c.mean.ensures (record { some = mean_low c.args.self some; few = mean_high c.args.self some })
 
 pub returns : goal.returns
 returns c =

@@ -66,7 +66,7 @@ returns-in_err-check_lines c =
     let p = err_from_is_err_and c.from_residual-in_err-check_lines.result c.from_residual-in_err-check_lines.ensures.1 in
     let h =
     stops_at_lines c.args.bytes.now _ c.in_ok-origin.ensures.value _ c.in_ok-serial.ensures.value _
-    c.in_ok-age.ensures.value _ c.in_ok-pairs.ensures.value c.in_err-check_lines.field_0.0
+    c.in_ok-age.ensures.value _ c.in_ok-pairs.ensures.value c.in_err-check_lines.field-0.0
     (called c.check_lines.result _ _ _ c.in_err-check_lines.was c.check_lines.ensures (same_lines (goal.at.returns-in_err-check_lines c).After-of)) in
     rw (p.1, p.2) (record { value = h; exactly = no_form c.args.bytes.now _ h; part = tt; whole = tt })
 
