@@ -18,7 +18,7 @@ abbrev pub worst_first : Meaning
 worst_first = record {
   empty = 0;
   add = λ c f. capped (max (c / 65536) f * 65536 + (c % 65536 + 1));
-  less = ltb;
+  less = nat_lt;
 }
 
 -- Five lines of 3 are milder than one line of 5, and a further line of 9 reverses it.
