@@ -16,10 +16,10 @@ loop-place-preserved c =
     elim c.if-not-same.branch [
       | then-not-same w ↦
           let one : ◌≡◌ {A = ℕ} (cond (not c.same.result) 1 0) 1 = ap (λ (b : Bool). cond {A = ℕ} (not b) 1 0) w.if-not-same.true in
-          (omega (arith, w.count_is), omega (arith, w.count_is))
+          (omega (arith, w.count-is), omega (arith, w.count-is))
       | else-not-same w ↦
           let none : ◌≡◌ {A = ℕ} (cond (not c.same.result) 1 0) 0 = ap (λ (b : Bool). cond {A = ℕ} (not b) 1 0) w.if-not-same.false in
-          (omega (arith, w.count_is), omega (arith, w.count_is))
+          (omega (arith, w.count-is), omega (arith, w.count-is))
     ]
 
 pub returns : goal.returns

@@ -24,7 +24,7 @@ pub invariant_of-self : goal.invariant_of-self
 invariant_of-self c =
     let db = c.args.self.now in
     let e = all_aged db.entries c.loop-place.entries c.loop-place.place (omega (arith, db.full)) c.loop-place.invariant.0 in
-    rw e (db.range, (length-map db.entries aged ∙ db.full, (aged_sound db.count db.entries db.full db.sound, tt)))
+    rw e (record { range = db.range; full = length-map db.entries aged ∙ db.full; sound = aged_sound db.count db.entries db.full db.sound })
 
 pub returns : goal.returns
 returns c =

@@ -8,4 +8,4 @@ invariant_of-self c =
     let db = c.args.self.now in
     let r = db.range in
     let s = own_sound db.count db.root _ c.args.row r.1 (sym c.if-not-allowed.ensures.value) (c.allowed.ensures.fits c.if-not-allowed.false) in
-    (r, (length-set db.entries (db.root - 1) _ ∙ db.full, (kept_at db.count db.entries db.root _ r.0 (omega arith) db.full s db.sound, tt)))
+    record { range = r; full = length-set db.entries (db.root - 1) _ ∙ db.full; sound = kept_at db.count db.entries db.root _ r.0 (omega arith) db.full s db.sound }

@@ -11,10 +11,9 @@ invariant_of-self c =
     let db = c.args.self.now in
     let q = content c.args.report.now in
     let s : sound_entry db.count q.header.origin c.entry_of.result ≡ true = ap (sound_entry db.count q.header.origin) c.entry_of.ensures ∙ heard_sound db.count q c.requires.0 c.requires.1 in
-    let w = origin_within db.count q c.requires.0 c.requires.1 in (
-      db.range,
-      (
-        length-set db.entries (q.header.origin - 1) _ ∙ db.full,
-        (kept_at db.count db.entries q.header.origin _ c.requires.0.origin_low (omega (arith, db.range)) db.full s db.sound, tt),
-      ),
-    )
+    let w = origin_within db.count q c.requires.0 c.requires.1 in
+    record {
+      range = db.range;
+      full = length-set db.entries (q.header.origin - 1) _ ∙ db.full;
+      sound = kept_at db.count db.entries q.header.origin _ c.requires.0.origin_low (omega (arith, db.range)) db.full s db.sound;
+    }

@@ -18,13 +18,12 @@ invariant_of-self c =
     let now' = c.all_begun-self.result in
     let e = c.all_begun-self.ensures in
     let due' = c.is_due-due.result in
-    let n = sym (length-map now' shown) ∙ ap length e ∙ length-map (map shown p.slots) (begun due') ∙ length-map p.slots shown ∙ p.eight in (
-      n,
-      (
-        subst (Within p.count p.root) (sym e) (begun_within due' (map shown p.slots) p.count p.root p.within),
-        (subst Apart (sym e) (begun_apart due' (map shown p.slots) p.apart), tt),
-      ),
-    )
+    let n = sym (length-map now' shown) ∙ ap length e ∙ length-map (map shown p.slots) (begun due') ∙ length-map p.slots shown ∙ p.eight in
+    record {
+      eight = n;
+      within = subst (Within p.count p.root) (sym e) (begun_within due' (map shown p.slots) p.count p.root p.within);
+      apart = subst Apart (sym e) (begun_apart due' (map shown p.slots) p.apart);
+    }
 
 pub returns-then-due : goal.returns-then-due
 returns-then-due c =

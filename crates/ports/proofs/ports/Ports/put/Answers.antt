@@ -11,18 +11,14 @@ invariant_of-self c =
     let p = c.args.self.now in
     let i = c.args.number - 1 in
     let m = map-set shown p.slots i c.args.slot in
-    let h : i < length (map shown p.slots) = omega (arith, length-map p.slots shown, p.eight) in (
-      length-set p.slots i c.args.slot ∙ p.eight,
-      (
-        subst (Within p.count p.root) (sym m)
-            (put_within p.count p.root (map shown p.slots) c.args.number (shown c.args.slot) h c.requires.1.1 p.within),
-        (
-          subst Apart (sym m)
-              (put_apart p.count p.root (map shown p.slots) c.args.number (shown c.args.slot) h c.requires.1.1 p.apart),
-          tt,
-        ),
-      ),
-    )
+    let h : i < length (map shown p.slots) = omega (arith, length-map p.slots shown, p.eight) in
+    record {
+      eight = length-set p.slots i c.args.slot ∙ p.eight;
+      within = subst (Within p.count p.root) (sym m)
+          (put_within p.count p.root (map shown p.slots) c.args.number (shown c.args.slot) h c.requires.1.1 p.within);
+      apart = subst Apart (sym m)
+          (put_apart p.count p.root (map shown p.slots) c.args.number (shown c.args.slot) h c.requires.1.1 p.apart);
+    }
 
 pub returns : goal.returns
 returns c = simp map-set

@@ -17,7 +17,7 @@ invariant_of-self c =
     let n = c.args.self.now.full in
     let e = single_set c.args.slot c.args.origin ts n c.place.result c.place.ensures.0 c.if-slot-lt1.false c.if-slot-gt8.false c.if-origin-lt1.false c.if-origin-gt64.false in
     let p = sound (single c.args.slot c.args.origin ts n) _ e (single_low c.args.slot c.args.origin ts n c.args.self.now.low) in
-    (p.0, (p.1, tt))
+    record { full = p.0; low = p.1 }
 
 pub returns : goal.returns
 returns c =

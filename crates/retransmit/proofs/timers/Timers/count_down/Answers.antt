@@ -32,7 +32,7 @@ invariant_of-self c =
     let e = row_all c.args.slot g ts c.loop-origin.left c.loop-origin.origin c.requires.0 c.loop-origin-test.false c.loop-origin.invariant in
     let keeps : (o t : ℕ) → t ≤ 3 → g o t ≤ 3 = λ o t l. low_if _ 3 (t - 1) (omega arith) (omega arith) in
     let p = sound (row c.args.slot g ts) _ e (row_low c.args.slot g ts c.args.self.now.low keeps) in
-    (p.0, (p.1, tt))
+    record { full = p.0; low = p.1 }
 
 pub returns : goal.returns
 returns c =

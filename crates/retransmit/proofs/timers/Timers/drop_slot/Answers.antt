@@ -22,7 +22,7 @@ invariant_of-self c =
     let ts = c.args.self.now.left in
     let e = row_all c.args.slot none ts c.loop-origin.left c.loop-origin.origin c.if-slot-lt1.false c.loop-origin-test.false c.loop-origin.invariant in
     let p = sound (row c.args.slot none ts) _ e (row_low c.args.slot none ts c.args.self.now.low (λ o t l. omega arith)) in
-    (p.0, (p.1, tt))
+    record { full = p.0; low = p.1 }
 
 pub returns : goal.returns
 returns c =

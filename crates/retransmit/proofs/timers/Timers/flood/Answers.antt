@@ -37,7 +37,7 @@ invariant_of-self c =
     let e = column_all c.args.origin h ts c.loop-slot.left c.loop-slot.slot c.loop-slot-test.false c.loop-slot.invariant in
     let keeps : (s t : ℕ) → t ≤ 3 → h s t ≤ 3 = λ s t l. low_if (arrived_on c.args.arrival s) 0 (cond (get_or c.args.slots (s - 1) false) 3 t) (omega arith) (low_if (get_or c.args.slots (s - 1) false) 3 t (omega arith) l) in
     let p = sound (column c.args.origin h ts) _ e (column_low c.args.origin h ts c.args.self.now.low keeps) in
-    (p.0, (p.1, tt))
+    record { full = p.0; low = p.1 }
 
 pub returns : goal.returns
 returns c =

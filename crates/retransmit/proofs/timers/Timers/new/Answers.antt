@@ -11,4 +11,4 @@ zeros k =
     ]
 
 pub invariant_of-result : goal.invariant_of-result
-invariant_of-result c = (refl, (zeros, tt))
+invariant_of-result c = record { full = refl; low = zeros }

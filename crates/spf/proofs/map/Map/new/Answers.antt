@@ -12,13 +12,11 @@ parts : ℕ → List Row → Option Parts
 parts count rows = Some (record { count = count; rows = rows })
 
 pub invariant_of-result : goal.invariant_of-result
-invariant_of-result c = (
-  omega arith,
-  (
-    omega arith,
-    (subst⁻¹ (λ (rows : List Row). allowed_rows c.args.count 1 rows ≡ true) c.no_rows.ensures (rows_none c.args.count 1 64), tt),
-  ),
-)
+invariant_of-result c = record {
+  some = omega arith;
+  few = omega arith;
+  allowed = subst⁻¹ (λ (rows : List Row). allowed_rows c.args.count 1 rows ≡ true) c.no_rows.ensures (rows_none c.args.count 1 64);
+}
 
 pub returns : goal.returns
 unfolding parts

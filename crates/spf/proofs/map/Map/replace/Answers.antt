@@ -10,10 +10,12 @@ invariant_of-self c =
     let m = c.args.self.now in
     let low : 1 ≤ c.args.node = omega arith in
     let high : c.args.node ≤ m.count = omega arith in
-    let yes' = c.if-not-allowed.ensures in (
-      m.some,
-      (m.few, (rows_set m.count c.args.node m.rows c.args.row.now m.allowed low high (sym yes'.value) (yes'.fits refl), tt)),
-    )
+    let yes' = c.if-not-allowed.ensures in
+    record {
+      some = m.some;
+      few = m.few;
+      allowed = rows_set m.count c.args.node m.rows c.args.row.now m.allowed low high (sym yes'.value) (yes'.fits refl);
+    }
 
 pub returns : goal.returns
 returns c =
