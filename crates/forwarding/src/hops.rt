@@ -8,10 +8,10 @@ use super::walk::{End, Walk};
 
 // Asks each node on the way for its next hop towards the destination, and goes there.
 pub fn forward<N: NextHops>(network: &N, from: u8, to: u8) -> Walk
-    ensures value { course_of result ≡ walk (shows network.now) (nodes network.now) from to }
-    ensures going { Going (shows network.now) (nodes network.now) from to (course_of result) }
-    ensures arrives { Arriving (shows network.now) (nodes network.now) from to (course_of result) }
-    ensures absent { Absent (shows network.now) (nodes network.now) from to (course_of result) }
+    ensures value { course_of result ≡ walk (N.shows network.now) (N.nodes network.now) from to }
+    ensures going { Going (N.shows network.now) (N.nodes network.now) from to (course_of result) }
+    ensures arrives { Arriving (N.shows network.now) (N.nodes network.now) from to (course_of result) }
+    ensures absent { Absent (N.shows network.now) (N.nodes network.now) from to (course_of result) }
 {
     let limit = network.count().min(64) as u8;
     let mut nodes = beginning(from);

@@ -22,8 +22,8 @@ impl Search {
         requires queued { Queued (reached_by self.now.routes) self.now.nodes self.now.reached }
         requires mirrored { Mirrors self.now.routes self.now.costs }
         requires waits { self.now.settled < self.now.reached }
-        requires costs { Costs (means metric.now) self.now.routes }
-        ensures nearest { (least : ℕ) → cost_at self.now.routes self.now.nodes result ≡ Some least → Nearest (means metric.now) self.now.routes self.now.nodes self.now.settled self.now.reached result least }
+        requires costs { Costs (M.means metric.now) self.now.routes }
+        ensures nearest { (least : ℕ) → cost_at self.now.routes self.now.nodes result ≡ Some least → Nearest (M.means metric.now) self.now.routes self.now.nodes self.now.settled self.now.reached result least }
         ensures there { result < self.now.reached }
     {
         metric.laws();

@@ -34,7 +34,7 @@ fn better<M: Metric>(
     parent: u8,
     hop: u8,
 ) -> Option<Route>
-    ensures { result ≡ bettered (means metric.now) from cost held parent hop }
+    ensures { result ≡ bettered (M.means metric.now) from cost held parent hop }
 {
     let Some(least) = held else {
         return Some(Route {
@@ -120,7 +120,7 @@ impl Search {
         requires mirrored { Mirrors self.old.routes self.old.costs }
         requires low { 1 ≤ line.neighbour }
         requires high { line.neighbour ≤ 64 }
-        ensures { Offered (offered_at (means metric.now) from cost line) self.old self.new }
+        ensures { Offered (offered_at (M.means metric.now) from cost line) self.old self.new }
     {
         let place = usize::from(line.neighbour) - 1;
         let held = self.held_at(place);
@@ -151,7 +151,7 @@ impl Search {
         requires mirrored { Mirrors self.old.routes self.old.costs }
         requires few { count ≤ 64 }
         requires lines { allowed count from 0 lines.now ≡ true }
-        ensures { Offered (offered_all (means metric.now) from cost lines.now) self.old self.new }
+        ensures { Offered (offered_all (M.means metric.now) from cost lines.now) self.old self.new }
     {
         for line in lines {
             self.offer(metric, from, cost, *line);

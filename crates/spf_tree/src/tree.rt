@@ -16,8 +16,8 @@ use spf::route::Tree;
 // no node waits.
 fn search<M: Metric>(metric: &M, map: &Map, root: u8, table: Tree) -> Tree
     requires rooted { Node (map_of map.now) root }
-    requires partial { Partial (means metric.now) (map_of map.now) root (route_at table) }
-    ensures { AllRoutes (means metric.now) (map_of map.now) root result }
+    requires partial { Partial (M.means metric.now) (map_of map.now) root (route_at table) }
+    ensures { AllRoutes (M.means metric.now) (map_of map.now) root result }
 {
     metric.laws();
     map.sound();
@@ -33,8 +33,8 @@ fn search<M: Metric>(metric: &M, map: &Map, root: u8, table: Tree) -> Tree
 
 // The tree of a root; none if the map has no such node.
 pub fn shortest_paths<M: Metric>(metric: &M, map: &Map, root: u8) -> Option<Tree>
-    ensures value { result ≡ tree_answer (means metric.now) (map_of map.now) root }
-    ensures right { MatchOption result (Node (map_of map.now) root → ⊥) (λ tree. AllRoutes (means metric.now) (map_of map.now) root tree) }
+    ensures value { result ≡ tree_answer (M.means metric.now) (map_of map.now) root }
+    ensures right { MatchOption result (Node (map_of map.now) root → ⊥) (λ tree. AllRoutes (M.means metric.now) (map_of map.now) root tree) }
 {
     if root < 1 || root > map.count() {
         return None;

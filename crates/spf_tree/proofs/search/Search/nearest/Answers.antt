@@ -3,7 +3,7 @@ use Rattle.spf_laws.proofs.Options.{some_same}
 use Rattle.spf_tree.specs.Queues.{Nearest}
 use Rattle.spf_tree.proofs.Choice.{nearest_first, nearest_take, nearest_keep}
 use Rattle.spf_tree.proofs.search.Search.nearest.Goals as goal
-use Rattle.spf_tree.proofs.search.Search.nearest.Goals.{then_less, else-less}
+use Rattle.spf_tree.proofs.search.Search.nearest.Goals.{then-less, else-less}
 
 pub loop-place-init : goal.loop-place-init
 loop-place-init g c =
@@ -19,7 +19,7 @@ loop-place-preserved g c =
     let to = c.loop-place.place in
     let after : from < to = omega (arith, c.loop-place.auto.place) in
     elim c.if-less.branch [
-      | then_less w ↦ subst₂ (λ (b : ℕ) (l : ℕ). Nearest k R N from (to + 1) b l) (sym w.best-is) (sym w.least-is)
+      | then-less w ↦ subst₂ (λ (b : ℕ) (l : ℕ). Nearest k R N from (to + 1) b l) (sym w.best-is) (sym w.least-is)
           (nearest_take k c.laws.ensures R N c.requires.costs from to c.loop-place.best c.loop-place.least c.cost_at-cost.result after c.loop-place.invariant c.cost_at-cost.ensures (sym c.less.ensures ∙ w.if-less.true))
       | else-less w ↦ subst₂ (λ (b : ℕ) (l : ℕ). Nearest k R N from (to + 1) b l) (sym w.best-is) (sym w.least-is)
           (nearest_keep k c.laws.ensures R N c.requires.costs from to c.loop-place.best c.loop-place.least c.cost_at-cost.result after c.loop-place.invariant c.cost_at-cost.ensures (sym c.less.ensures ∙ w.if-less.false))

@@ -12,7 +12,7 @@ pub swap-requires : goal.swap-requires
 swap-requires c =
     let few : c.args.self.now.reached ≤ 64 = queue_few (reached_by c.args.self.now.routes) c.args.self.now.nodes c.args.self.now.reached c.requires.queued in
     let long : length c.args.self.now.nodes ≡ 64 = search rules in
-    record { a-in-bounds = omega (arith, c.requires.there, c.requires.waits); b-in-bounds = omega (arith, c.requires.there) }
+    record { a_in_bounds = omega (arith, c.requires.there, c.requires.waits); b_in_bounds = omega (arith, c.requires.there) }
 
 pub bounds-self-settled : goal.bounds-self-settled
 bounds-self-settled c =
