@@ -11,4 +11,4 @@ bounds-self-place c =
 
 pub returns : goal.returns
 returns c =
-    mirror_at c.args.self.now.routes c.args.self.now.costs c.args.self.now.nodes c.args.self.now.reached c.args.place c.from-node.result c.requires.queued c.requires.mirrored c.requires.there c.from_node.ensures
+    mirror_at c.args.self.now.routes c.args.self.now.costs c.args.self.now.nodes c.args.self.now.reached c.args.place c.from-node.result c.requires.queued c.requires.mirrored c.requires.there c.from-node.ensures
