@@ -1,5 +1,5 @@
 -- The database by what it holds, how it begins and ages, and what is read from it.
-use Rattle.std.specs.Prelude.{ℕ, ◌-◌, Bool, cond, ◌&&◌, List, map, replicate, Some, None, Ok, Err, count_by, Option, Result, nat_le, slice_index_or, slice_set}
+use Rattle.std.specs.Prelude.{ℕ, ◌-◌, cond, ◌&&◌, List, map, replicate, Some, None, Ok, Err, count_by, Option, Result, nat_le, slice_index_or, slice_set}
 use Rattle.rows.specs.declared.row.Row.{Row}
 use Rattle.rows.specs.Rows.{no_row}
 use Rattle.entries.specs.declared.entry.Entry.{Entry}

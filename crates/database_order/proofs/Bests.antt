@@ -1,17 +1,13 @@
 -- The entry of a node, after reports are taken one after the other, is that of the last serial among 32 consecutive ones.
-use Rattle.std.proofs.Common.{◌≡◌, ℕ, ◌+◌, ◌-◌, ◌<◌, ◌≤◌, true, false, List, [], ◌∷◌, length, get_or, Ok, sym, refl, ap, ◌∙◌, subst, inl, inr, arith}
-use Rattle.std.proofs.ByRecursion.{All-weaker, has_append_right, has_get_or}
-use Rattle.std.proofs.lemmas.Bool.{cases_Bool, cases_lt}
+use Rattle.std.proofs.Common.{◌≡◌, ℕ, ◌<◌, ◌≤◌, List, [], ◌∷◌, Ok, refl, inl, inr, arith}
+use Rattle.std.proofs.ByRecursion.{has_append_right}
+use Rattle.std.proofs.lemmas.Bool.{cases_lt}
 use Rattle.std.specs.List.{ContainsAt as Has, AllByRecursion as All}
 use Rattle.wire.specs.Reports.{Content}
 use Rattle.entries.specs.declared.entry.Entry.{Entry}
-use Rattle.entries.specs.Freshness.{ahead, newer}
-use Rattle.database.specs.States.{State, held}
-use Rattle.database.specs.Taking.{heard, heard_entry, take_state}
-use Rattle.database_order.specs.Orders.{taken_all}
-use Rattle.database_order.specs.Renewal.{Renews}
-use Rattle.database_order.proofs.Serials.{ahead_newer, behind_older}
-use Rattle.database_order.proofs.Steps.{Alike, taken_alike, step, heard_fair, same_brought}
+use Rattle.entries.specs.Freshness.{ahead}
+use Rattle.database.specs.Taking.{heard, heard_entry}
+use Rattle.database_order.proofs.Steps.{same_brought}
 
 -- What holds of the serial's place of each report of an origin that b brings.
 abbrev pub Each : ℕ → ℕ → ℕ → (ℕ → Type 0) → List ℕ → Type 0

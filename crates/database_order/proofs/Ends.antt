@@ -1,5 +1,5 @@
 -- Two orders of the same reports have the same end.
-use Rattle.std.proofs.Common.{◌≡◌, ℕ, ◌+◌, ◌-◌, ◌<◌, ◌≤◌, List, [], ◌∷◌, map, length, get_or, Ok, sym, refl, ap, ◌∙◌, inl, inr, arith}
+use Rattle.std.proofs.Common.{◌≡◌, ℕ, ◌+◌, ◌-◌, ◌<◌, ◌≤◌, List, [], ◌∷◌, length, Ok, sym, refl, ap, ◌∙◌, inl, inr, arith}
 use Rattle.std.proofs.ByRecursion.{all-has, All-weaker, all_has_itself, all_shuffled, has_shuffled}
 use Rattle.std.proofs.lemmas.List.{ext_get_or, get_or-map, length-map}
 use Rattle.std.proofs.lemmas.List.Sorted.{IsPermutation-sym}
@@ -13,7 +13,7 @@ use Rattle.entries.specs.declared.entry.Entry.{Entry}
 use Rattle.entries.specs.Entries.{missing}
 use Rattle.entries.specs.Freshness.{ahead}
 use Rattle.database.specs.States.{State, held}
-use Rattle.database.specs.Taking.{heard, row_with, heard_entry, take_state}
+use Rattle.database.specs.Taking.{heard, row_with, take_state}
 use Rattle.database_order.specs.Orders.{taken_all, lines_held, Brought, Premise, OrderFree}
 use Rattle.database_order.proofs.Serials.{same_serial}
 use Rattle.database_order.proofs.Steps.{taken_alike, step, heard_fair}

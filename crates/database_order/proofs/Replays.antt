@@ -1,5 +1,5 @@
 -- Reports of a slice, taken one after the other.
-use Rattle.std.proofs.Common.{◌≡◌, ℕ, ◌+◌, ◌<◌, List, [], ◌∷◌, ◌++◌, map, length, get_or, take, sym, refl, ap, ◌∙◌, Bor}
+use Rattle.std.proofs.Common.{◌≡◌, ℕ, ◌+◌, ◌<◌, List, [], ◌∷◌, ◌++◌, length, get_or, take, sym, refl, ap, ◌∙◌, Bor}
 use Rattle.std.proofs.lemmas.List.{take_more, map_push}
 use Rattle.database.specs.States.{State}
 use Rattle.database.specs.Taking.{take_state}

@@ -1,17 +1,17 @@
 -- Reports taken one after the other, seen from one origin.
-use Rattle.std.proofs.Common.{◌≡◌, ℕ, ◌+◌, ◌-◌, ◌<◌, ◌≤◌, true, false, List, [], ◌∷◌, length, Ok, sym, refl, ap, ◌∙◌, subst, inl, inr, arith}
+use Rattle.std.proofs.Common.{◌≡◌, ℕ, ◌≤◌, false, List, [], ◌∷◌, length, Ok, sym, refl, ap, ◌∙◌, subst, inl, inr, arith}
 use Rattle.std.proofs.lemmas.Bool.{cases_Bool, or_left, eq-eqb, both_ways}
 use Rattle.std.specs.List.{AllByRecursion as All}
 use Rattle.wire.specs.Reports.{Content}
 use Rattle.entries.specs.declared.entry.Entry.{Entry}
 use Rattle.entries.specs.Freshness.{ahead, newer}
 use Rattle.database.specs.States.{State, held}
-use Rattle.database.specs.Taking.{heard, heard_entry, take_state}
+use Rattle.database.specs.Taking.{heard, take_state}
 use Rattle.database_order.specs.Orders.{taken_all}
 use Rattle.database_order.specs.Renewal.{Renews}
 use Rattle.database_order.proofs.Serials.{ahead_newer, behind_older}
-use Rattle.database_order.proofs.Steps.{Alike, taken_alike, step, heard_fair}
-use Rattle.database_order.proofs.Bests.{Each, Below, Best, stays, comes, renewed, left}
+use Rattle.database_order.proofs.Steps.{taken_alike, step, heard_fair}
+use Rattle.database_order.proofs.Bests.{Below, Best, stays, renewed, left}
 
 -- a report on a lapsed entry is newer
 lapsed_newer : (e : Entry) (serial : ℕ) → e.age ≡ 0 → newer e serial ≡ false → ⊥

@@ -1,20 +1,18 @@
 -- The examples of the serial premise, computed.
-use Rattle.std.proofs.Common.{◌≡◌, ℕ, ◌-◌, ◌<◌, ◌≤◌, Bool, true, false, cond, eqb, List, [], ◌∷◌, length, get_or, replicate, Ok, Err, Result, sym, refl, ap, ◌∙◌, inl, inr, arith}
+use Rattle.std.proofs.Common.{◌≡◌, ℕ, ◌-◌, false, cond, eqb, List, [], ◌∷◌, replicate, Ok, Err, Result, sym, refl, ap, ◌∙◌, inl, inr, arith}
 use Rattle.std.proofs.ByRecursion.{all-has}
 use Rattle.std.proofs.lemmas.List.{get_or-replicate, get_or_past}
 use Rattle.std.proofs.lemmas.List.Sorted.{IsPermutation-to_front}
 use Rattle.std.proofs.lemmas.Bool.{cases_lt}
-use Rattle.std.specs.List.Sorted.{IsPermutation}
 use Rattle.std.specs.List.{AllByRecursion as All}
 use Rattle.wire.specs.declared.lines.Line.{Line}
 use Rattle.wire.specs.Reports.{Content, read_report}
-use Rattle.rows.specs.Rows.{lines_in}
 use Rattle.entries.specs.declared.verdicts.TakeFault.{TakeFault}
 use Rattle.entries.specs.Entries.{fresh, missing}
 use Rattle.database.specs.States.{held}
 use Rattle.database.specs.Taking.{heard}
-use Rattle.database_order.specs.Orders.{taken_all, lines_held, Among, Premise}
-use Rattle.database_order.specs.Examples.{start, line, fitting, fitting_back, lines_of_two, early, late, other, Met, Needed}
+use Rattle.database_order.specs.Orders.{Among, Premise}
+use Rattle.database_order.specs.Examples.{start, line, fitting, lines_of_two, early, late, other, Met, Needed}
 use Rattle.database_order.proofs.Ends.{each_same}
 
 says : ℕ → ℕ → Line → Content

@@ -1,7 +1,7 @@
 -- What one taking does to the entry of one node.
-use Rattle.std.proofs.Common.{◌≡◌, ℕ, ◌+◌, ◌-◌, ◌%◌, ◌<◌, ◌≤◌, Bool, true, false, cond, ◌&&◌, eqb, leb, ◌≢◌, ◌⊎◌, List, length, get_or, set, Ok, Err, Result, sym, refl, ap, ◌∙◌, inl, inr, arith}
+use Rattle.std.proofs.Common.{◌≡◌, ℕ, ◌-◌, ◌≤◌, Bool, true, false, cond, eqb, ◌≢◌, ◌⊎◌, List, length, get_or, Ok, Err, Result, sym, refl, ap, ◌∙◌, inl, inr, arith}
 use Rattle.std.proofs.lemmas.List.{get_or-set_same, get_or-set_other, length-set}
-use Rattle.std.proofs.lemmas.Bool.{cases_eq, cases_Bool, eqb-true, eqb-false, leb-true, both_ways}
+use Rattle.std.proofs.lemmas.Bool.{cases_eq, eqb-true, eqb-false, leb-true, both_ways}
 use Rattle.std.proofs.lemmas.Bool.Decides.{nat_tests}
 use Rattle.wire.specs.declared.fault.ReadFault.{ReadFault}
 use Rattle.wire.specs.Reports.{Content, said, report_questions, read_report}
@@ -14,9 +14,9 @@ use Rattle.entries.specs.declared.verdicts.TakeFault.{TakeFault}
 use Rattle.entries.specs.Entries.{missing}
 use Rattle.entries.specs.Freshness.{newer}
 use Rattle.entries.specs.Verdicts.{verdict}
-use Rattle.database.specs.States.{State, held, entered}
+use Rattle.database.specs.States.{State, held}
 use Rattle.database.specs.Taking.{within, passed, admitted, heard, verdict_on, heard_entry, settled, left_by, take_state}
-use Rattle.database_order.specs.Renewal.{Renews, Renewed, Renewal}
+use Rattle.database_order.specs.Renewal.{Renews, Renewal}
 
 -- What a report that was read has for sure.
 pub record Fair (q : Content) : Type 0 where

@@ -1,6 +1,6 @@
 -- What is answered and left where the entry was found and is in force.
-use Rattle.std.proofs.Common.{◌≡◌, ℕ, ◌<◌, ◌≤◌, Bool, true, false, cond, ◌&&◌, ltb, leb, List, Some, None, sym, refl, ap, ◌∙◌, inl, inr, arith}
-use Rattle.std.proofs.lemmas.Bool.{cases_Bool, lt-ltb, and_parts, leb-true}
+use Rattle.std.proofs.Common.{◌≡◌, ℕ, ◌≤◌, Bool, true, false, cond, ◌&&◌, ltb, leb, List, Some, None, sym, refl, ap, ◌∙◌, arith}
+use Rattle.std.proofs.lemmas.Bool.{lt-ltb, and_parts, leb-true}
 use Rattle.wire.specs.Form.{encode}
 use Rattle.wire_write.specs.Putting.{put, put_answer}
 use Rattle.entries.specs.declared.entry.Entry.{Entry}

@@ -1,5 +1,5 @@
 -- What the database holds of one node, when it is sound, and how it ages.
-use Rattle.std.specs.Prelude.{Bool, true, ◌&&◌, ◌||◌, [], ℕ, ◌-◌, leb, eqb}
+use Rattle.std.specs.Prelude.{Bool, ◌&&◌, ◌||◌, [], ℕ, ◌-◌, leb, eqb}
 use Rattle.rows.specs.Rows.{no_row, lines_in, allowed_row, figures_fit}
 use Rattle.entries.specs.declared.entry.Entry.{Entry}
 

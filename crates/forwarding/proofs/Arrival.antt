@@ -1,12 +1,11 @@
 -- The course where all nodes show their routes of one map under one metric. Assumes nothing.
-use Rattle.std.proofs.Common.{◌≡◌, ℕ, zero, suc, ◌≤◌, min, List, [], ◌∷◌, length, None, Option, sym, refl, ap, ◌∙◌, subst, arith}
+use Rattle.std.proofs.Common.{◌≡◌, ℕ, zero, suc, ◌≤◌, min, List, [], ◌∷◌, length, None, sym, refl, ap, ◌∙◌, subst, arith}
 use Rattle.metric.specs.Meaning.{Meaning}
 use Rattle.spf.specs.Maps.{Map, Sound}
 use Rattle.spf.specs.Routes.{Distance, Parent, NextHop, nowhere, there, onwards}
 use Rattle.spf.specs.Forwarding.{Forwards, Arrives}
 use Rattle.spf.specs.declared.route.Route.{Route}
 use Rattle.spf_laws.proofs.Forward.{forwarding}
-use Rattle.forwarding.specs.declared.walk.End.{End}
 use Rattle.forwarding.specs.declared.walk.End.TheVariants.{Arrived}
 use Rattle.forwarding.specs.Courses.{Course, hops_of, walk_from, walk}
 use Rattle.forwarding.specs.Arrival.{Arriving, Absent}

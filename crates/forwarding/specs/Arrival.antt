@@ -1,11 +1,10 @@
 -- What holds of a walk where all nodes show their routes of one map under one metric. Assumes nothing.
-use Rattle.std.specs.Prelude.{◌≡◌, ℕ, Some, None, Option, ◌≢◌}
+use Rattle.std.specs.Prelude.{◌≡◌, ℕ, Some, None, ◌≢◌}
 use Rattle.metric.specs.Meaning.{Meaning}
 use Rattle.metric.specs.Laws.{Laws}
 use Rattle.spf.specs.Maps.{Map, Node, Sound}
 use Rattle.spf.specs.Forwarding.{AllShow, Arrives}
 use Rattle.spf.specs.declared.route.Route.{Route}
-use Rattle.forwarding.specs.declared.walk.End.{End}
 use Rattle.forwarding.specs.declared.walk.End.TheVariants.{Arrived, Lost}
 use Rattle.forwarding.specs.Courses.{Course, hops_of, ends_at}
 

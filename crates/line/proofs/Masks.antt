@@ -1,10 +1,10 @@
 -- A window's mask, read as messages: one step of it, and the count of its ones. Assumes nothing.
-use Rattle.std.proofs.Common.{◌≡◌, ℕ, zero, suc, ◌+◌, ◌-◌, ◌*◌, ◌/◌, ◌%◌, ◌^◌, ◌<◌, ◌≤◌, List, [], ◌∷◌, ◌++◌, length, drop, sym, refl, ap, ◌∙◌, ap₂, add-zero, mod-lt, mod-eq_of_lt, add_comm, add-one, arith, lit<, lit≤}
+use Rattle.std.proofs.Common.{◌≡◌, ℕ, zero, suc, ◌+◌, ◌-◌, ◌*◌, ◌/◌, ◌%◌, ◌^◌, ◌<◌, ◌≤◌, List, [], ◌∷◌, ◌++◌, length, drop, sym, refl, ap, ◌∙◌, ap₂, mod-lt, mod-eq_of_lt, add_comm, add-one, arith, lit<}
 use lib.Arith.{digits_div, digits_mod, lt-one}
 use lib.Bits.{bit_and, bit_or}
 use lib.Count.{ones, ones_step}
-use Rattle.std.proofs.lemmas.Nat.{and_mask, or_shifted, field_of, mod-pow-add, mod_low, shr_below}
-use Rattle.std.proofs.lemmas.List.{length-append, length_push, drop-append-le}
+use Rattle.std.proofs.lemmas.Nat.{and_mask, or_shifted, field_of, mod-pow-add, shr_below}
+use Rattle.std.proofs.lemmas.List.{length_push, drop-append-le}
 use Rattle.line.specs.Messages.{misses, last, clear}
 use Rattle.line.specs.Windows.{bit_of, message_of, held_in}
 use Rattle.line.specs.declared.messages.Message.{Message}

@@ -1,5 +1,5 @@
 -- Adding a list of figures to the empty cost makes a path cost of as many lines. Assumes nothing.
-use Rattle.std.proofs.Common.{◌≡◌, ℕ, suc, ◌+◌, ◌≤◌, List, [], ◌∷◌, length, fold, subst, arith}
+use Rattle.std.proofs.Common.{ℕ, ◌+◌, ◌≤◌, List, [], ◌∷◌, length, fold, subst, arith}
 use Rattle.std.specs.List.{AllByRecursion as All}
 use Rattle.metric.specs.Meaning.{Meaning, Figure, PathCost, none, more, CostUpTo, along}
 

@@ -2,8 +2,7 @@
 use Rattle.std.proofs.Common.{◌≡◌, ℕ, ◌+◌, ◌*◌, ◌≤◌, max, List, [], ◌∷◌, length, fold, refl, ap, ◌∙◌, arith}
 use Rattle.std.specs.List.{AllByRecursion as All}
 use Rattle.std.proofs.lemmas.Bool.{both_ways}
-use Rattle.metric.specs.Meaning.{Meaning, Figure, largest_figure, along}
-use Rattle.metric.specs.Laws.{Laws}
+use Rattle.metric.specs.Meaning.{Figure, largest_figure, along}
 use Rattle.metric.specs.Metrics.{capped, worst}
 use Rattle.metric.proofs.PathCosts.{along_cost}
 use Rattle.metric.proofs.TwoParts.{first_then_second, worst_fits}

@@ -1,6 +1,6 @@
 -- The questions of a resending.
-use Rattle.std.proofs.Common.{◌≡◌, ℕ, ◌<◌, ◌≤◌, true, false, cond, ◌&&◌, leb, List, length, Ok, Err, sym, refl, ap, ◌∙◌, inl, inr, arith}
-use Rattle.std.proofs.lemmas.Bool.{cases_lt, cases_Bool, le-leb, lt-leb, leb-true, and_from, and_parts, cond-true, cond-false}
+use Rattle.std.proofs.Common.{◌≡◌, ℕ, ◌<◌, ◌≤◌, ◌&&◌, leb, List, length, Ok, Err, ◌∙◌, inl, inr}
+use Rattle.std.proofs.lemmas.Bool.{cases_Bool, le-leb, lt-leb, leb-true, and_from, and_parts, cond-true, cond-false}
 use Rattle.database.specs.States.{State}
 use Rattle.retransmit.specs.declared.resending.ResendFault.TheVariants as fault
 use Rattle.retransmit.specs.Resending.{asked}

@@ -1,13 +1,12 @@
 -- What is listed: just the origins whose timer ran out, rising.
-use Rattle.std.proofs.Common.{◌≡◌, ℕ, zero, suc, ◌+◌, ◌-◌, ◌<◌, ◌≤◌, Bool, true, false, cond, ◌&&◌, eqb, ltb, leb, List, [], ◌∷◌, length, get_or, filter, sym, refl, ap, ◌∙◌, inl, inr, le_of_suc-le-suc, arith}
+use Rattle.std.proofs.Common.{◌≡◌, ℕ, zero, suc, ◌+◌, ◌-◌, ◌<◌, ◌≤◌, Bool, true, ◌&&◌, eqb, ltb, leb, List, [], ◌∷◌, length, get_or, filter, ap, ◌∙◌, inl, inr, le_of_suc-le-suc, arith}
 use Rattle.std.proofs.lemmas.List.FromFn.{get_or-range_with_len, length-range_with_len}
-use Rattle.std.proofs.ByRecursion.{all-has, kept_by_passes, all_kept_by, All-from_get_or, has_append_right}
+use Rattle.std.proofs.ByRecursion.{all-has, kept_by_passes, has_append_right}
 use Rattle.std.proofs.lemmas.Bool.{cases_Bool, and_parts, and_from, eqb-true, eq-eqb, ltb-true, lt-ltb, le-leb, leb-true}
-use Rattle.std.proofs.lemmas.Bool.Decides.{nat_tests}
-use Rattle.std.specs.List.{range_with_len, ContainsAt as Has, AllByRecursion as All}
+use Rattle.std.specs.List.{range_with_len, ContainsAt as Has}
 use Rattle.database.specs.States.{State, held, age_of}
 use Rattle.retransmit.specs.Timers.{timer}
-use Rattle.retransmit.specs.Resending.{runs_out, due, due_on, RanOut, Exactly}
+use Rattle.retransmit.specs.Resending.{runs_out, due, due_on, Exactly}
 
 -- What passes is kept.
 has_kept : (p : ℕ → Bool) (xs : List ℕ) (x k : ℕ) → k < length xs → ((d : ℕ) → get_or xs k d ≡ x) → p x ≡ true → Has (filter p xs) x

@@ -1,7 +1,7 @@
 -- One timer, all timers of an origin, and all timers of a slot.
-use Rattle.std.proofs.Common.{◌≡◌, ℕ, ◌+◌, ◌-◌, ◌*◌, ◌/◌, ◌%◌, ◌<◌, ◌≤◌, Bool, true, false, cond, ◌&&◌, eqb, ltb, leb, ◌≢◌, ◌⊎◌, List, length, get_or, set, sym, refl, ap, ◌∙◌, inl, inr, arith}
+use Rattle.std.proofs.Common.{◌≡◌, ℕ, ◌+◌, ◌-◌, ◌*◌, ◌/◌, ◌%◌, ◌<◌, ◌≤◌, Bool, true, false, cond, ◌&&◌, eqb, ltb, leb, List, length, get_or, set, sym, refl, ap, ◌∙◌, inl, inr, arith}
 use Rattle.std.proofs.lemmas.List.{get_or-set_same, get_or-set_other, length-set}
-use Rattle.std.proofs.lemmas.Bool.{cases_eq, cases_Bool, cases_lt, eq-eqb, ne_eqb, cond-true, cond-false, lt-ltb, le-ltb, ltb-false, le-leb, and_from, and_left, and_right, and_cases, leb-false, lt-leb}
+use Rattle.std.proofs.lemmas.Bool.{cases_eq, cases_lt, eq-eqb, ne_eqb, cond-true, cond-false, lt-ltb, le-ltb, ltb-false, le-leb, and_from, and_left, and_right, and_cases, leb-false, lt-leb}
 use Rattle.retransmit.specs.Timers.{timer, every_timer}
 use Rattle.retransmit.proofs.Written.{flat, timer_at, every_is, Sofar, none_yet, unread, one_written, all_written}
 

@@ -1,5 +1,5 @@
 -- The timers of all slots and origins, and what sets them.
-use Rattle.std.specs.Prelude.{ℕ, ◌+◌, ◌-◌, ◌*◌, ◌/◌, ◌%◌, Bool, true, false, cond, ◌&&◌, List, map, replicate, Some, None, Option, ◌==◌, nat_le, slice_index, slice_index_or}
+use Rattle.std.specs.Prelude.{ℕ, ◌+◌, ◌-◌, ◌*◌, ◌/◌, ◌%◌, Bool, false, cond, ◌&&◌, List, map, replicate, Some, None, Option, ◌==◌, nat_le, slice_index, slice_index_or}
 use Rattle.std.specs.List.{range_with_len}
 
 -- The timer of a slot, 1 to 8, and an origin, 1 to 64: the timers stand slot by slot, 64 to a slot.

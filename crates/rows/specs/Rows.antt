@@ -1,5 +1,5 @@
 -- The lines that leave one node, as a node keeps them. Assumes nothing.
-use Rattle.std.specs.Prelude.{ℕ, Bool, true, false, not, ◌&&◌, List, [], ◌∷◌, length, take, replicate, ◌==◌, nat_le, nat_lt}
+use Rattle.std.specs.Prelude.{ℕ, Bool, true, not, ◌&&◌, List, [], ◌∷◌, take, replicate, ◌==◌, nat_le, nat_lt}
 use Rattle.wire.specs.declared.lines.Line.{Line}
 use Rattle.rows.specs.declared.row.Row.{Row}
 

@@ -8,7 +8,7 @@ use Rattle.wire.specs.declared.lines.Line.{Line}
 use Rattle.rows.specs.declared.row.Row.{Row}
 use Rattle.rows.specs.Rows.{lines_in, no_row, allowed, allowed_row, figures_fit}
 use Rattle.rows.proofs.Facts.{row_lines}
-use Rattle.spf.specs.Maps.{Map, Node, Joined, Sound}
+use Rattle.spf.specs.Maps.{Sound}
 use Rattle.spf.specs.Reading.{lines_from}
 use Rattle.spf.specs.Rows.{allowed_at, allowed_rows, figure_to, figures, map_from}
 use Rattle.spf.proofs.Figures.{figure_fits, figure_leads, all_figures}

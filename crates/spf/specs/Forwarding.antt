@@ -1,5 +1,5 @@
 -- Forwarding over one map: each node on the way names the next one. Assumes nothing.
-use Rattle.std.specs.Prelude.{◌≡◌, ℕ, ◌<◌, List, [], ◌∷◌, length, Some, Option, ◌≢◌}
+use Rattle.std.specs.Prelude.{◌≡◌, ℕ, ◌<◌, List, [], ◌∷◌, length, ◌≢◌}
 use Rattle.metric.specs.Meaning.{Meaning}
 use Rattle.spf.specs.declared.route.Route.{Route}
 use Rattle.spf.specs.Maps.{Map, Node, Joined}

@@ -1,5 +1,5 @@
 -- How maps are made. Assumes nothing.
-use Rattle.std.specs.Prelude.{◌≡◌, ℕ, ◌-◌, ◌<◌, ◌≤◌, Bool, cond, ◌&&◌, ◌⊎◌, List, replicate, Some, None, Ok, Err, Option, Result, ◌≢◌, nat_le, slice_set}
+use Rattle.std.specs.Prelude.{◌≡◌, ℕ, ◌-◌, ◌<◌, Bool, cond, ◌&&◌, ◌⊎◌, List, replicate, Some, None, Ok, Err, Option, Result, ◌≢◌, nat_le, slice_set}
 use Rattle.rows.specs.declared.row.Row.{Row}
 use Rattle.rows.specs.Rows.{lines_in, no_row, allowed_row}
 use Rattle.spf.specs.declared.making.MapFault.{MapFault}

@@ -1,5 +1,5 @@
 -- The tree, as it can be reckoned. That these are the routes is proved for every metric that keeps the laws. Assumes nothing.
-use Rattle.std.specs.Prelude.{ℕ, zero, suc, Bool, true, false, cond, List, [], ◌∷◌, map, Some, None, Option, ◌==◌, slice_index_or}
+use Rattle.std.specs.Prelude.{ℕ, zero, suc, Bool, false, cond, List, map, Some, None, Option, ◌==◌, slice_index_or}
 use Rattle.std.specs.List.{range_with_len}
 use Rattle.metric.specs.Meaning.{Meaning}
 use Rattle.spf.specs.declared.route.Route.{Route}

@@ -1,17 +1,16 @@
 -- The offers of the nearest node keep the lowest parents and the next hops. Assumes nothing.
-use Rattle.std.proofs.Common.{◌≡◌, ℕ, zero, suc, ◌<◌, ◌≤◌, Bool, true, false, cond, ◌&&◌, eqb, ◌⊎◌, List, [], ◌∷◌, Some, None, Option, sym, refl, ap, ◌∙◌, subst, ap₂, inl, inr, arith}
+use Rattle.std.proofs.Common.{◌≡◌, ℕ, zero, suc, ◌<◌, ◌≤◌, Bool, true, false, cond, ◌&&◌, eqb, ◌⊎◌, Some, None, Option, sym, refl, ap, ◌∙◌, subst, ap₂, inl, inr, arith}
 use mathlib.Core.Path.{subst⁻¹}
-use Rattle.std.proofs.lemmas.Bool.{both_ways, cases_Bool, cases_eq, cases_lt, and_left, and_parts, eqb-true, eqb-false, eq-eqb, ne_eqb, cond-true, cond-false, false≢true}
-use Rattle.metric.specs.Meaning.{Meaning, Cost, Figure}
+use Rattle.std.proofs.lemmas.Bool.{both_ways, cases_Bool, cases_eq, cases_lt, and_left, and_parts, eqb-true, eqb-false, eq-eqb, ne_eqb}
+use Rattle.metric.specs.Meaning.{Meaning}
 use Rattle.metric.specs.Laws.{Laws}
-use Rattle.spf.specs.Maps.{Map, Node, Joined, Sound}
-use Rattle.spf.specs.Paths.{Path, cost}
+use Rattle.spf.specs.Maps.{Map, Node, Sound}
 use Rattle.spf.specs.Reckoning.{lesser, brought, leads_to}
 use Rattle.spf.specs.declared.route.Route.{Route}
-use Rattle.spf_laws.specs.Searches.{Going, Lowest, offers, lower_of, compared, offered, after_line, hop_by}
+use Rattle.spf_laws.specs.Searches.{Going, Lowest, offers, lower_of, compared, after_line}
 use Rattle.spf_laws.proofs.Orders.{AtMost}
 use Rattle.spf_laws.proofs.Options.{some_same, none_some}
-use Rattle.spf_laws.proofs.Lowest.{lowest_same, lowest_at, lowest_more, lowest_passes}
+use Rattle.spf_laws.proofs.Lowest.{lowest_same, lowest_at, lowest_more}
 use Rattle.spf_laws.proofs.Parents.{passes}
 use Rattle.spf_laws.proofs.Settle.{cost_of, step, kept, above}
 

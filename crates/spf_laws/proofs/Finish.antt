@@ -1,18 +1,15 @@
 -- Where no node waits, a search has found the routes. Assumes nothing.
-use Rattle.std.proofs.Common.{◌≡◌, ℕ, zero, suc, ◌<◌, ◌≤◌, Bool, true, false, cond, ◌&&◌, eqb, ◌⊎◌, List, [], ◌∷◌, Some, None, Option, sym, refl, ap, ◌∙◌, subst, ap₂, inl, inr, arith}
+use Rattle.std.proofs.Common.{◌≡◌, ℕ, zero, suc, ◌<◌, ◌≤◌, Bool, false, cond, ◌&&◌, eqb, Some, None, Option, sym, refl, ap, ◌∙◌, subst, inl, inr, arith}
 use mathlib.Core.Path.{subst⁻¹}
-use Rattle.std.proofs.lemmas.Bool.{both_ways, cases_Bool, cases_eq, eq-eqb, ne_eqb, cond-true, cond-false}
-use Rattle.metric.specs.Meaning.{Meaning, Cost, Figure}
+use Rattle.std.proofs.lemmas.Bool.{cases_Bool, cases_eq, eq-eqb, ne_eqb, cond-true, cond-false}
+use Rattle.metric.specs.Meaning.{Meaning}
 use Rattle.metric.specs.Laws.{Laws}
-use Rattle.spf.specs.Maps.{Map, Node, Joined, Sound}
-use Rattle.spf.specs.Paths.{Path, cost}
-use Rattle.spf.specs.Routes.{Distance, Leads, Parent, NextHop, nowhere, there, onwards, IsRoute}
+use Rattle.spf.specs.Maps.{Map, Node, Sound}
+use Rattle.spf.specs.Routes.{Distance, Parent, NextHop, nowhere, there, onwards, IsRoute}
 use Rattle.spf.specs.Reckoning.{leads_to}
 use Rattle.spf.specs.declared.route.Route.{Route}
 use Rattle.spf_laws.specs.Tables.{Table}
-use Rattle.spf_laws.specs.Searches.{Going, Lowest, offers, hop_by, HopsSo, Searching}
-use Rattle.spf_laws.proofs.Orders.{AtMost, at_most_trans, less_at_most}
-use Rattle.spf_laws.proofs.Paths.{path_is_cost}
+use Rattle.spf_laws.specs.Searches.{Lowest, offers, hop_by, Searching}
 use Rattle.spf_laws.proofs.Least.{right}
 use Rattle.spf_laws.proofs.Lowest.{lowest_same}
 use Rattle.spf_laws.proofs.Settle.{finish}

@@ -1,7 +1,7 @@
 -- The lowest number that passes, as the test changes. Assumes nothing.
-use Rattle.std.proofs.Common.{◌≡◌, ℕ, zero, suc, ◌<◌, ◌≤◌, min, Bool, true, false, ◌⊎◌, sym, refl, ap, ◌∙◌, subst, inl, inr, arith}
+use Rattle.std.proofs.Common.{◌≡◌, ℕ, zero, suc, ◌<◌, ◌≤◌, min, Bool, true, false, ◌⊎◌, refl, ◌∙◌, inl, inr, arith}
 use mathlib.Core.Path.{subst⁻¹}
-use Rattle.std.proofs.lemmas.Bool.{cases_lt, cases_eq}
+use Rattle.std.proofs.lemmas.Bool.{cases_lt}
 use Rattle.spf_laws.specs.Searches.{Lowest, lower_of}
 
 pub lowest_same : (t t' : ℕ → Bool) (n p : ℕ) → ((w : ℕ) → t' w ≡ t w) → Lowest t n p → Lowest t' n p

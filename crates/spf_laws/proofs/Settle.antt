@@ -1,8 +1,8 @@
 -- Settling the nearest node keeps what the search keeps. Assumes nothing.
-use Rattle.std.proofs.Common.{◌≡◌, ℕ, zero, suc, ◌+◌, ◌<◌, ◌≤◌, Bool, true, false, cond, ◌⊎◌, List, [], ◌∷◌, Some, None, Option, sym, refl, ap, ◌∙◌, subst, inl, inr, arith}
+use Rattle.std.proofs.Common.{◌≡◌, ℕ, zero, suc, ◌≤◌, Bool, true, false, cond, ◌⊎◌, List, [], ◌∷◌, Some, None, Option, sym, refl, ap, ◌∙◌, subst, inl, inr, arith}
 use mathlib.Core.Path.{subst⁻¹}
 use Rattle.std.proofs.lemmas.Bool.{both_ways, cases_Bool, cases_eq}
-use Rattle.metric.specs.Meaning.{Meaning, Cost, Figure}
+use Rattle.metric.specs.Meaning.{Meaning, Cost}
 use Rattle.metric.specs.Laws.{Laws}
 use Rattle.spf.specs.Maps.{Map, Node, Joined, Sound}
 use Rattle.spf.specs.Paths.{Apart, Path, cost}

@@ -1,5 +1,5 @@
 -- A search as a whole: how it begins, and one step. Assumes nothing.
-use Rattle.std.proofs.Common.{◌≡◌, ℕ, zero, suc, ◌<◌, ◌≤◌, Bool, true, false, cond, ◌&&◌, ◌⊎◌, Some, None, Option, sym, refl, ap, ◌∙◌, subst, ap₂, inl, inr}
+use Rattle.std.proofs.Common.{◌≡◌, ℕ, Bool, true, false, ◌⊎◌, Some, Option, sym, ap, ◌∙◌, inl, inr}
 use mathlib.Core.Path.{subst⁻¹}
 use Rattle.std.proofs.lemmas.Bool.{both_ways, and_left, and_parts, cond-false}
 use Rattle.metric.specs.Meaning.{Meaning}
@@ -7,7 +7,7 @@ use Rattle.metric.specs.Laws.{Laws}
 use Rattle.spf.specs.Maps.{Map, Node, Sound}
 use Rattle.spf.specs.Reckoning.{leads_to}
 use Rattle.spf.specs.declared.route.Route.{Route}
-use Rattle.spf_laws.specs.Searches.{Going, Lowest, offers, after_line, hop_by, HopsSo, Searching, Partial}
+use Rattle.spf_laws.specs.Searches.{Going, Lowest, offers, after_line, hop_by, Searching, Partial}
 use Rattle.spf_laws.proofs.Orders.{AtMost}
 use Rattle.spf_laws.proofs.Lowest.{lowest_passes}
 use Rattle.spf_laws.proofs.Choose.{going', chosen', route_kept, after_hop}

@@ -1,9 +1,9 @@
 -- How the list of reached nodes is made of a table. Assumes nothing.
-use Rattle.std.proofs.Common.{◌≡◌, ℕ, zero, suc, ◌+◌, ◌<◌, ◌≤◌, Bool, true, false, cond, ◌&&◌, leb, ◌⊎◌, List, length, get_or, set, sym, refl, ap, ◌∙◌, subst, ap₂, inl, inr, add-one, arith}
+use Rattle.std.proofs.Common.{◌≡◌, ℕ, ◌+◌, ◌<◌, ◌≤◌, Bool, true, false, ◌&&◌, leb, List, length, get_or, set, sym, ap, ◌∙◌, inl, inr, add-one, arith}
 use mathlib.Core.Path.{subst⁻¹}
-use Rattle.std.proofs.lemmas.Bool.{both_ways, cases_eq, cases_lt, and_parts, and_left, and_right, and_from, leb-true, le-leb, lt-leb}
+use Rattle.std.proofs.lemmas.Bool.{cases_eq, cases_lt, and_parts, and_left, and_right, and_from, leb-true, le-leb, lt-leb}
 use Rattle.spf.specs.declared.route.Route.{Route}
-use Rattle.spf.specs.Reckoning.{route_at, no_route}
+use Rattle.spf.specs.Reckoning.{no_route}
 use Rattle.spf_tree.specs.Queues.{Queued, reaches, reached_by}
 use Rattle.spf_tree.proofs.Queue.{queue_same, queue_push, room}
 

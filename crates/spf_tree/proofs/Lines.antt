@@ -1,5 +1,5 @@
 -- The offers of all lines that leave a node. Assumes nothing.
-use Rattle.std.proofs.Common.{◌≡◌, ℕ, zero, suc, ◌+◌, ◌-◌, ◌<◌, ◌≤◌, Bool, true, false, cond, eqb, ◌⊎◌, List, [], ◌∷◌, length, get_or, take, fold, sym, refl, ap, ◌∙◌, subst, inl, inr, arith}
+use Rattle.std.proofs.Common.{◌≡◌, ℕ, zero, suc, ◌+◌, ◌<◌, ◌≤◌, true, eqb, List, [], ◌∷◌, length, get_or, take, sym, refl, ap, ◌∙◌, subst, inl, inr, arith}
 use mathlib.Core.Path.{subst⁻¹}
 use Rattle.std.proofs.lemmas.List.{take_all}
 use Rattle.std.proofs.lemmas.List.Sums.{fold_more}
@@ -7,7 +7,7 @@ use Rattle.std.proofs.lemmas.Bool.{cases_eq, eq-eqb, ne_eqb, cond-true, cond-fal
 use Rattle.metric.specs.Meaning.{Meaning}
 use Rattle.wire.specs.declared.lines.Line.{Line}
 use Rattle.rows.specs.Rows.{allowed, no_line}
-use Rattle.rows.proofs.Facts.{MayFollow, first_allowed, rest_allowed, lines_allowed}
+use Rattle.rows.proofs.Facts.{first_allowed, rest_allowed, lines_allowed}
 use Rattle.spf.specs.declared.route.Route.{Route}
 use Rattle.spf.specs.Reckoning.{route_at}
 use Rattle.spf.specs.Rows.{figure_to}

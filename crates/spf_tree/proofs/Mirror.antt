@@ -1,10 +1,8 @@
 -- Costs that stand beside the routes. Assumes nothing.
-use Rattle.std.proofs.Common.{◌≡◌, ℕ, zero, suc, ◌+◌, ◌-◌, ◌<◌, ◌≤◌, Bool, true, false, cond, ◌≢◌, ◌⊎◌, List, length, get_or, set, is_some, Some, None, Option, sym, refl, ap, ◌∙◌, subst, inl, inr, arith, get_or-set_other, get_or-set_same}
-use mathlib.Core.Path.{subst⁻¹}
-use Rattle.std.proofs.lemmas.Bool.{cases_eq, cond-true, cond-false}
+use Rattle.std.proofs.Common.{◌≡◌, ℕ, ◌+◌, ◌-◌, ◌<◌, ◌≤◌, true, cond, ◌≢◌, List, length, get_or, set, is_some, Some, None, Option, sym, refl, ap, ◌∙◌, inl, inr, arith, get_or-set_other, get_or-set_same}
+use Rattle.std.proofs.lemmas.Bool.{cases_eq}
 use Rattle.spf.specs.declared.route.Route.{Route}
 use Rattle.spf.specs.Reckoning.{route_at, no_route}
-use Rattle.spf_laws.proofs.Options.{some_same, none_some}
 use Rattle.spf_tree.specs.Queues.{Queued, reached_by, Mirrors, or_none, cost_at}
 use Rattle.spf_tree.proofs.Choice.{route_is}
 

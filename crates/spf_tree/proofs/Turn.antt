@@ -1,8 +1,8 @@
 -- One turn of the search, over its lists. Assumes nothing.
-use Rattle.std.proofs.Common.{◌≡◌, ℕ, zero, suc, ◌+◌, ◌-◌, ◌<◌, ◌≤◌, Bool, true, false, cond, ◌||◌, eqb, ◌⊎◌, List, length, get_or, set, is_some, Some, None, Option, sym, refl, ap, ◌∙◌, subst, ap₂, inl, inr, add-one, arith, length-set}
+use Rattle.std.proofs.Common.{◌≡◌, ℕ, zero, suc, ◌+◌, ◌-◌, ◌<◌, ◌≤◌, Bool, true, false, ◌||◌, eqb, List, length, get_or, set, is_some, Some, sym, refl, ap, ◌∙◌, subst, ap₂, inl, inr, add-one, arith, length-set}
 use mathlib.Core.Path.{subst⁻¹}
 use Rattle.std.proofs.lemmas.Bool.{both_ways, cases_Bool, cases_eq, cases_lt, eq-eqb, ne_eqb, or_left}
-use Rattle.metric.specs.Meaning.{Meaning, Cost}
+use Rattle.metric.specs.Meaning.{Meaning}
 use Rattle.metric.specs.Laws.{Laws}
 use Rattle.wire.specs.declared.lines.Line.{Line}
 use Rattle.rows.specs.Rows.{allowed}
@@ -10,15 +10,15 @@ use Rattle.spf.specs.Maps.{Map, Node, Sound}
 use Rattle.spf.specs.Routes.{IsRoute}
 use Rattle.spf.specs.Rows.{figure_to}
 use Rattle.spf.specs.declared.route.Route.{Route}
-use Rattle.spf.specs.Reckoning.{route_at, no_route}
-use Rattle.spf_laws.specs.Searches.{Going, Lowest, offers, after_line, hop_by, Searching, Partial}
+use Rattle.spf.specs.Reckoning.{route_at}
+use Rattle.spf_laws.specs.Searches.{Lowest, offers, after_line, Searching, Partial}
 use Rattle.spf_laws.proofs.Orders.{AtMost}
 use Rattle.spf_laws.proofs.Paths.{path_node}
 use Rattle.spf_laws.proofs.Settle.{cost_of}
 use Rattle.spf_laws.proofs.Steps.{start, stepped}
 use Rattle.spf_laws.proofs.Finish.{found}
 use Rattle.spf_tree.specs.declared.search.Search.{Search}
-use Rattle.spf_tree.specs.Queues.{Queued, reaches, reached_by, listed, cost_at, Nearest, Costs, ChangedOver, Mirrors}
+use Rattle.spf_tree.specs.Queues.{Queued, reached_by, listed, Nearest, Costs, ChangedOver, Mirrors}
 use Rattle.spf_tree.specs.Steps.{hopped, offered_all, Offered}
 use Rattle.spf_tree.proofs.Queue.{queue_same, queue_swap, queue_few, listed_at, listed_where, listed_same}
 use Rattle.spf_tree.proofs.Mirror.{some_of, mirror_same}

@@ -1,11 +1,10 @@
 -- The steps of a search, one node and one line at a time. Assumes nothing.
-use Rattle.std.specs.Prelude.{◌≡◌, ℕ, ◌<◌, ◌≤◌, Bool, cond, List, length, is_some, Some, None, fold, Option, ◌==◌, slice_index, slice_index_or}
+use Rattle.std.specs.Prelude.{◌≡◌, ℕ, ◌<◌, ◌≤◌, cond, List, length, is_some, Some, None, fold, Option, ◌==◌, slice_index, slice_index_or}
 use Rattle.metric.specs.Meaning.{Meaning}
 use Rattle.wire.specs.declared.lines.Line.{Line}
 use Rattle.spf.specs.declared.route.Route.{Route}
 use Rattle.spf.specs.Reckoning.{route_at, no_route}
-use Rattle.spf.specs.Rows.{figure_to}
-use Rattle.spf_laws.specs.Searches.{offered, after_line, lower_of, hop_by}
+use Rattle.spf_laws.specs.Searches.{offered, lower_of, hop_by}
 use Rattle.spf_tree.specs.declared.search.Search.{Search}
 use Rattle.spf_tree.specs.Queues.{Queued, reached_by, Mirrors}
 

@@ -1,5 +1,5 @@
 -- The mean of a tally's delays: its range, and that it is the whole part of sum by count.
-use Rattle.std.proofs.Common.{ℕ, ◌+◌, ◌*◌, ◌/◌, ◌<◌, ◌≤◌, List, add-mul, one-mul, div-mul-le_self, arith}
+use Rattle.std.proofs.Common.{ℕ, ◌+◌, ◌/◌, ◌<◌, ◌≤◌, List, add-mul, one-mul, div-mul-le_self, arith}
 use native.Mathlib.Nat.{lt-div-mul-add}
 use Rattle.std.proofs.lemmas.Nat.{div_below, le-div}
 use Rattle.timing.specs.declared.types.Tally.{Tally}

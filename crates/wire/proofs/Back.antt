@@ -1,11 +1,11 @@
 -- The form of an allowed report reads as what it says.
-use Rattle.std.proofs.Common.{◌≡◌, ℕ, ◌+◌, ◌*◌, ◌/◌, ◌%◌, ◌<◌, ◌≤◌, Bool, true, false, cond, ◌&&◌, eqb, leb, List, [], ◌∷◌, ◌++◌, length, get_or, take, drop, Ok, sym, refl, ap, ◌∙◌, arith}
+use Rattle.std.proofs.Common.{◌≡◌, ℕ, ◌+◌, ◌*◌, ◌%◌, ◌≤◌, Bool, true, false, leb, List, length, get_or, Ok, refl, ap, ◌∙◌, arith}
 use Rattle.std.proofs.lemmas.List.{take_all}
 use Rattle.std.proofs.lemmas.Bool.{le-leb, eq-eqb, and_from}
 use Rattle.std.proofs.lemmas.Bool.Decides.{nat_tests}
 use Rattle.wire.specs.declared.field.Tag.{Tag}
 use Rattle.wire.specs.declared.field.Tag.TheVariants as tag
-use Rattle.wire.specs.Fields.{word, value_of, tag_number, permitted_length, permitted_value, field_questions}
+use Rattle.wire.specs.Fields.{word, value_of, tag_number, field_questions}
 use Rattle.wire.specs.Lines.{lines_of, pair_bytes}
 use Rattle.wire.specs.Reports.{Content, Allowed, line_questions, said, report_questions, read_report}
 use Rattle.wire.specs.Form.{age_byte, encode}

@@ -1,5 +1,5 @@
 -- The reader's way through the fields of a report: where it stops, and where it comes to the end.
-use Rattle.std.proofs.Common.{◌≡◌, ℕ, ◌+◌, cond, leb, List, [], ◌∷◌, ◌++◌, length, get_or, Ok, Err, sym, ◌∙◌}
+use Rattle.std.proofs.Common.{◌≡◌, ℕ, ◌+◌, cond, leb, List, ◌++◌, length, get_or, Ok, Err, sym, ◌∙◌}
 use Rattle.wire.specs.declared.fault.ReadFault.{ReadFault}
 use Rattle.wire.specs.declared.fault.Question.TheVariants as question
 use Rattle.wire.specs.declared.field.Tag.{Tag}

@@ -1,14 +1,13 @@
 -- Bytes that read are the form of what they say.
-use Rattle.std.proofs.Common.{◌≡◌, ℕ, zero, suc, ◌+◌, ◌*◌, ◌/◌, ◌%◌, ◌<◌, ◌≤◌, Bool, true, false, cond, ◌&&◌, eqb, leb, List, [], ◌∷◌, ◌++◌, length, get_or, take, drop, Ok, sym, refl, ap, ◌∙◌, inl, inr, add-one, arith}
-use Rattle.std.proofs.lemmas.List.{drop_more, take_all, length-take-le, length-drop, get_or-drop}
+use Rattle.std.proofs.Common.{◌≡◌, ℕ, zero, suc, ◌+◌, ◌*◌, ◌/◌, ◌%◌, ◌<◌, ◌≤◌, true, eqb, leb, List, ◌∷◌, length, get_or, drop, Ok, sym, refl, ap, ◌∙◌, inl, inr, arith}
+use Rattle.std.proofs.lemmas.List.{drop_more, take_all, length-drop, get_or-drop}
 use Rattle.std.proofs.lemmas.Bool.{leb-true, eqb-true, and_parts}
 use Rattle.std.proofs.lemmas.Bool.Decides.{nat_tests, leb_tells}
-use Rattle.wire.specs.declared.field.Tag.TheVariants as tag
 use Rattle.wire.specs.Fields.{word, value_of}
 use Rattle.wire.specs.Lines.{lines_of, pair_bytes}
 use Rattle.wire.specs.Reports.{Content, Allowed, said, report_questions, read_report}
 use Rattle.wire.specs.Form.{age_byte, encode}
-use Rattle.wire.specs.Laws.{Bytes, Forms, Undone}
+use Rattle.wire.specs.Laws.{Bytes, Undone}
 use Rattle.wire.proofs.Judging.{all_yes, comes}
 use Rattle.wire.proofs.Pairs.{lines_length, pairs_back, lawful}
 use Rattle.wire.proofs.Passed.{AllPassed, all_passed}

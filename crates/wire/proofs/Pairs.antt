@@ -1,10 +1,8 @@
 -- Lines and the bytes that hold them: each way undoes the other, and questions on lines say what is lawful.
-use Rattle.std.proofs.Common.{◌≡◌, ℕ, suc, ◌+◌, ◌*◌, ◌/◌, ◌%◌, ◌<◌, ◌≤◌, Bool, true, false, not, ◌&&◌, eqb, ltb, leb, List, [], ◌∷◌, ◌++◌, length, get_or, sym, refl, ap, ◌∙◌, arith}
-use Rattle.std.proofs.lemmas.Bool.{leb-true, ltb-true, and_parts}
+use Rattle.std.proofs.Common.{◌≡◌, ℕ, suc, ◌+◌, ◌*◌, ◌/◌, ◌%◌, ◌<◌, ◌≤◌, List, [], ◌∷◌, length, refl, ap, arith}
 use Rattle.std.proofs.lemmas.Bool.Decides.{nat_tests}
 use Rattle.wire.specs.declared.lines.Line.{Line}
-use Rattle.wire.specs.Faults.{Asked}
-use Rattle.wire.specs.Lines.{line_bytes, pair_bytes, lines_of}
+use Rattle.wire.specs.Lines.{pair_bytes, lines_of}
 use Rattle.wire.specs.Reports.{Lawful, line_questions}
 use Rattle.wire.specs.Laws.{Bytes}
 use Rattle.wire.proofs.Judging.{AllYes}

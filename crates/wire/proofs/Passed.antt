@@ -1,5 +1,5 @@
 -- What the questions of a report say once they are all answered yes.
-use Rattle.std.proofs.Common.{◌≡◌, ℕ, ◌+◌, ◌≤◌, true, ◌&&◌, leb, List, length, get_or}
+use Rattle.std.proofs.Common.{◌≡◌, ℕ, ◌+◌, ◌≤◌, true, List, length, get_or}
 use Rattle.std.proofs.lemmas.Bool.{leb-true, eqb-true}
 use Rattle.wire.specs.declared.field.Tag.{Tag}
 use Rattle.wire.specs.declared.field.Tag.TheVariants as tag

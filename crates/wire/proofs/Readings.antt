@@ -1,15 +1,14 @@
 -- What the fields that were read say of the whole report.
-use Rattle.std.proofs.Common.{◌≡◌, ℕ, ◌+◌, ◌*◌, ◌%◌, ◌<◌, ◌≤◌, Bool, true, false, cond, ◌&&◌, eqb, leb, List, length, get_or, take, drop, Ok, Err, sym, refl, ap, ◌∙◌, arith, Bor}
+use Rattle.std.proofs.Common.{◌≡◌, ℕ, ◌+◌, ◌%◌, ◌≤◌, Bool, eqb, leb, List, length, get_or, drop, Ok, Err, sym, ap, ◌∙◌, arith, Bor}
 use Rattle.std.proofs.lemmas.List.{length-take-le, length-drop}
 use Rattle.std.proofs.lemmas.Bool.{leb-true, and_parts}
 use Rattle.wire.specs.declared.fault.ReadFault.{ReadFault}
 use Rattle.wire.specs.declared.field.Tag.TheVariants as tag
 use Rattle.wire.specs.declared.field.Field.{Field}
 use Rattle.wire.specs.declared.field.Field.TheVariants as field
-use Rattle.wire.specs.Fields.{word, value_of, Value, origin, serial, age, pairs, shown, field_questions, field_value, field_at}
+use Rattle.wire.specs.Fields.{word, value_of, origin, serial, age, pairs, shown, field_questions, field_value, field_at}
 use Rattle.wire.specs.Lines.{lines_of}
 use Rattle.wire.specs.Reports.{Content, read_report}
-use Rattle.wire.specs.Form.{encode}
 use Rattle.wire.specs.Laws.{Forms}
 use Rattle.wire.proofs.Judging.{apart, all_yes}
 use Rattle.wire.proofs.Passed.{passed}

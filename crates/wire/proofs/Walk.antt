@@ -1,6 +1,5 @@
 -- One line more, or none.
 use Rattle.std.proofs.Common.{◌≡◌, ℕ, ◌+◌, ◌*◌, ◌<◌, ◌≤◌, List, [], ◌∷◌, length, get_or, drop, refl, arith}
-use Rattle.wire.specs.declared.lines.Line.{Line}
 use Rattle.wire.specs.Lines.{lines_of}
 
 -- The first line of at least three bytes.

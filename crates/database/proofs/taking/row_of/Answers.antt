@@ -1,4 +1,4 @@
-use Rattle.std.proofs.Common.{◌<◌, ap, rules}
+use Rattle.std.proofs.Common.{◌<◌, rules}
 use Rattle.wire.specs.Lines.{lines_of}
 use Rattle.database.proofs.Filled.{Filling, room, one_more, filled}
 use Rattle.database.proofs.taking.row_of.Goals as goal

@@ -1,7 +1,7 @@
-use Rattle.std.proofs.Common.{◌≡◌, ℕ, ◌+◌, ◌≤◌, Bool, true, false, cond, not, sym, ap, ◌∙◌, arith}
+use Rattle.std.proofs.Common.{◌≡◌, ℕ, Bool, cond, not, ap, ◌∙◌, arith}
 use mathlib.Core.Path.{subst⁻¹}
 use Rattle.spf.specs.Changes.{changed_count, CountsChanges}
-use Rattle.spf.proofs.Counts.{changed_in, changed_none, changed_more, changed_all, counts_changes}
+use Rattle.spf.proofs.Counts.{changed_none, changed_more, changed_all, counts_changes}
 use Rattle.spf.proofs.changes.changed.Goals as goal
 use Rattle.spf.proofs.changes.changed.Goals.{then-not-same, else-not-same}
 

@@ -1,9 +1,8 @@
-use Rattle.std.proofs.Common.{◌≡◌, ℕ, ◌+◌, ◌<◌, List, length, sym, refl, ap, ◌∙◌, subst₂, arith, length-set}
+use Rattle.std.proofs.Common.{ℕ, ◌+◌, ◌<◌, List, length, sym, refl, ap, ◌∙◌, subst₂, arith, length-set}
 use Rattle.spf_tree.specs.Queues.{Queued}
 use Rattle.spf_tree.proofs.Beginning.{up_to, begin_none, begin_skip, begin_take, begin_room, begin_all}
 use Rattle.spf_tree.proofs.begin.begin.Goals as goal
 use Rattle.spf_tree.proofs.begin.begin.Goals.{then-is_some, else-is_some}
-use Rattle.spf_tree.proofs.Queue.{queue_swap, listed_at, listed_where, listed_same}
 
 pub loop-place-init : goal.loop-place-init
 loop-place-init c = (ap length c.no_nodes-nodes.ensures, begin_none c.args.routes c.no_nodes-nodes.result)

@@ -1,6 +1,4 @@
-use Rattle.std.proofs.Common.{◌≡◌, ◌<◌, length, get_or, ap, ◌∙◌, arith, length-set}
-use Rattle.spf.specs.Reckoning.{no_route}
-use Rattle.spf_tree.specs.Queues.{or_none}
+use Rattle.std.proofs.Common.{length, ap, ◌∙◌, arith, length-set}
 use Rattle.spf_tree.proofs.Mirror.{mirror_all, costs_more}
 use Rattle.spf_tree.proofs.begin.costs_of.Goals as goal
 

@@ -1,11 +1,9 @@
-use Rattle.std.proofs.Common.{◌≡◌, ℕ, true, length, get_or, sym, ap, ◌∙◌, rules}
+use Rattle.std.proofs.Common.{◌≡◌, ℕ, true, length, get_or, rules}
 use mathlib.Core.Path.{subst⁻¹}
-use Rattle.metric.specs.Meaning.{Meaning}
 use Rattle.rows.specs.Rows.{allowed}
 use Rattle.spf.specs.Maps.{Node}
 use Rattle.spf.specs.Model.{map_of}
-use Rattle.spf_tree.specs.Queues.{Nearest}
-use Rattle.spf_tree.proofs.Turn.{Held, held_first, costs, node_at, parent_fits, finished, mid_queued, mid_mirrored, held_next, fewer}
+use Rattle.spf_tree.proofs.Turn.{held_first, costs, node_at, parent_fits, finished, mid_queued, mid_mirrored, held_next, fewer}
 use Rattle.spf_tree.proofs.tree.search.Goals as goal
 
 pub loop-search-init : goal.loop-search-init

@@ -1,7 +1,6 @@
 use Rattle.std.proofs.Common.{◌≡◌, ℕ, ◌-◌, ◌≤◌, ◌&&◌, leb, List, length, set, replicate, Some, None, sym, ap, ◌∙◌, arith, rules}
 use mathlib.Core.Path.{subst⁻¹}
 use Rattle.std.proofs.lemmas.Bool.{cond-true, and_from, le-leb}
-use Rattle.spf.specs.Maps.{Node}
 use Rattle.spf.specs.Model.{map_of}
 use Rattle.spf.specs.Reckoning.{no_route, route_at, tree_of}
 use Rattle.spf.specs.declared.route.Route.{Route}

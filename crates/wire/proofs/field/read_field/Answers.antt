@@ -1,6 +1,5 @@
-use Rattle.std.proofs.Common.{◌≡◌, ℕ, ◌+◌, true, false, length, get_or, Err, sym, refl, ap, ◌∙◌, arith, rules}
+use Rattle.std.proofs.Common.{◌≡◌, ◌+◌, false, get_or, Err, sym, ap, ◌∙◌, rules}
 use Rattle.std.proofs.lemmas.Result.{err_from_is_err_and}
-use Rattle.std.proofs.lemmas.Bool.Decides.{nat_tests}
 use Rattle.wire.specs.Fields.{permitted_value}
 use Rattle.wire.proofs.Framed.{frame_stops, frame_goes_on, pairs_come, byte_comes, one_byte, first_byte}
 use Rattle.wire.proofs.field.read_field.Goals as goal

@@ -1,7 +1,6 @@
-use Rattle.std.proofs.Common.{◌≡◌, ℕ, List, Ok, Err, sym, refl, ap, ◌∙◌}
+use Rattle.std.proofs.Common.{◌≡◌, Err, sym, ap, ◌∙◌}
 use Rattle.std.proofs.lemmas.Result.{err_from_is_err_and}
-use Rattle.wire.specs.declared.report.Report.{Report}
-use Rattle.wire.specs.Reports.{Content, content, read_report}
+use Rattle.wire.specs.Reports.{read_report}
 use Rattle.wire.specs.Form.{framed}
 use Rattle.wire_write.specs.Putting.{put, put_answer}
 use Rattle.wire_write.specs.Rewriting.{answer_of, buffer_of, after_read}

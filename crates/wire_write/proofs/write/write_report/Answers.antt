@@ -1,4 +1,4 @@
-use Rattle.std.proofs.Common.{◌≡◌, ◌+◌, ◌≤◌, length, sym, refl, ap, ◌∙◌, arith, rules}
+use Rattle.std.proofs.Common.{◌≡◌, ◌+◌, ◌≤◌, length, refl, ◌∙◌, arith, rules}
 use Rattle.wire.specs.Form.{head, framed}
 use Rattle.wire_write.proofs.Laid.{laid, answer_fits}
 use Rattle.wire_write.proofs.write.write_report.Goals as goal

@@ -1,8 +1,8 @@
-use Rattle.std.proofs.Common.{◌≡◌, ◌+◌, ◌<◌, cond, length, get_or, sym, refl, ap, ◌∙◌, arith, rules}
+use Rattle.std.proofs.Common.{◌≡◌, ◌+◌, ◌<◌, cond, length, get_or, ap, ◌∙◌, arith, rules}
 use Rattle.std.proofs.lemmas.List.{take_all, length-map}
 use Rattle.std.proofs.lemmas.Bool.Decides.{nat_tests}
 use Rattle.entries.specs.Entries.{aged, lapsing, missing}
-use Rattle.database.proofs.Aged.{all_aged, aged_sound, long, one_aged, one_counted}
+use Rattle.database.proofs.Aged.{all_aged, aged_sound, one_aged, one_counted}
 use Rattle.database.proofs.types.Database.age_all.Goals as goal
 
 pub bounds-entries-place : goal.bounds-entries-place

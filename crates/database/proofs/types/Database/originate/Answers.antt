@@ -1,6 +1,6 @@
-use Rattle.std.proofs.Common.{◌≡◌, ◌-◌, sym, ◌∙◌, arith, rules}
+use Rattle.std.proofs.Common.{◌-◌, sym, ◌∙◌, arith}
 use Rattle.std.proofs.lemmas.List.{length-set}
-use Rattle.database.proofs.Kept.{kept_at, own_sound, serial_range}
+use Rattle.database.proofs.Kept.{kept_at, own_sound}
 use Rattle.database.proofs.types.Database.originate.Goals as goal
 
 pub invariant_of-self : goal.invariant_of-self

@@ -1,7 +1,7 @@
-use Rattle.std.proofs.Common.{◌≡◌, ℕ, ◌-◌, ◌<◌, Bool, length, get_or, sym, ap, ◌∙◌, arith, rules}
-use Rattle.database.specs.States.{state, age_of}
-use Rattle.retransmit.specs.Resending.{runs_out, due, due_on}
-use Rattle.retransmit.proofs.Listing.{Front, front_none, front_no, front_yes, front_all}
+use Rattle.std.proofs.Common.{◌≡◌, ◌<◌, length, get_or, sym, ◌∙◌, arith, rules}
+use Rattle.database.specs.States.{state}
+use Rattle.retransmit.specs.Resending.{runs_out, due}
+use Rattle.retransmit.proofs.Listing.{front_none, front_no, front_yes, front_all}
 use Rattle.retransmit.proofs.Listed.{within_count}
 use Rattle.retransmit.proofs.timers.Timers.list_due.Goals as goal
 use Rattle.retransmit.proofs.timers.Timers.list_due.Goals.{then-runs_out, else-runs_out}

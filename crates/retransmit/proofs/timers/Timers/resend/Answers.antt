@@ -1,7 +1,7 @@
 use Rattle.std.proofs.Common.{◌≡◌, ◌<◌, ◌≤◌, ◌++◌, length, take, drop, Ok, sym, ap, ◌∙◌, inl, inr, arith}
 use Rattle.std.proofs.lemmas.List.{take_at}
 use Rattle.database.specs.States.{state}
-use Rattle.retransmit.specs.Resending.{due_on, or_else, Exactly}
+use Rattle.retransmit.specs.Resending.{due_on, or_else}
 use Rattle.retransmit.proofs.Asking.{no_slot, no_list, all_asked}
 use Rattle.retransmit.proofs.Listed.{exactly}
 use Rattle.retransmit.proofs.timers.Timers.resend.Goals as goal

@@ -1,4 +1,4 @@
-use Rattle.std.proofs.Common.{◌≤◌, List, sym, ap, ◌∙◌}
+use Rattle.std.proofs.Common.{◌≤◌, sym, ap, ◌∙◌}
 use mathlib.Core.Path.{subst⁻¹}
 use Rattle.std.specs.List.{AllByRecursion as All}
 use Rattle.wire.specs.declared.lines.Line.{Line}

@@ -1,4 +1,4 @@
-use Rattle.std.proofs.Common.{◌≡◌, ℕ, List, [], length, sym, refl, ap, ◌∙◌, inl, inr, arith, rules}
+use Rattle.std.proofs.Common.{◌≡◌, [], length, sym, refl, ap, ◌∙◌, inl, inr, arith, rules}
 use Rattle.rows.specs.Rows.{allowed}
 use Rattle.spf.specs.Reading.{lines_from}
 use Rattle.spf.specs.Rows.{figure_to}

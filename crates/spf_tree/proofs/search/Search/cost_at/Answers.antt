@@ -1,4 +1,4 @@
-use Rattle.std.proofs.Common.{◌≡◌, ◌≤◌, arith}
+use Rattle.std.proofs.Common.{◌≤◌, arith}
 use Rattle.spf_tree.specs.Queues.{reached_by}
 use Rattle.spf_tree.proofs.Queue.{queue_few}
 use Rattle.spf_tree.proofs.Mirror.{mirror_at}

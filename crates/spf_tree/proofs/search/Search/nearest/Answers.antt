@@ -1,4 +1,4 @@
-use Rattle.std.proofs.Common.{◌≡◌, ℕ, ◌+◌, ◌<◌, ◌≤◌, true, false, sym, ap, ◌∙◌, subst, subst₂, arith}
+use Rattle.std.proofs.Common.{◌≡◌, ℕ, ◌+◌, ◌<◌, sym, ◌∙◌, subst₂, arith}
 use Rattle.spf_laws.proofs.Options.{some_same}
 use Rattle.spf_tree.specs.Queues.{Nearest}
 use Rattle.spf_tree.proofs.Choice.{nearest_first, nearest_take, nearest_keep}

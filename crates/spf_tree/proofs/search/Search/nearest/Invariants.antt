@@ -1,4 +1,3 @@
-use Rattle.std.proofs.Common.{◌≤◌}
 use Rattle.spf_tree.specs.Queues.{Nearest}
 use Rattle.spf_tree.proofs.search.Search.nearest.Given as goal
 

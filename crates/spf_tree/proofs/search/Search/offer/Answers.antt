@@ -1,4 +1,4 @@
-use Rattle.std.proofs.Common.{◌≡◌, ℕ, ◌-◌, ◌<◌, ◌≤◌, Bool, true, false, not, length, get_or, set, is_some, Option, sym, refl, ap, ◌∙◌, arith, length-set, rules}
+use Rattle.std.proofs.Common.{◌≡◌, ℕ, ◌-◌, ◌<◌, ◌≤◌, not, length, get_or, set, is_some, sym, refl, ap, ◌∙◌, arith, length-set, rules}
 use mathlib.Core.Path.{subst⁻¹}
 use Rattle.spf.specs.Reckoning.{no_route}
 use Rattle.spf_tree.specs.declared.search.Search.{Search}

@@ -1,4 +1,4 @@
-use Rattle.std.proofs.Common.{◌≡◌, ℕ, ◌-◌, ◌<◌, ◌≤◌, length, get_or, sym, refl, ap, ◌∙◌, arith, rules}
+use Rattle.std.proofs.Common.{◌≡◌, ◌-◌, ◌≤◌, length, get_or, sym, refl, ap, ◌∙◌, arith, rules}
 use mathlib.Core.Path.{subst⁻¹}
 use Rattle.spf.specs.declared.route.Route.{Route}
 use Rattle.spf.specs.Reckoning.{no_route, route_at}

@@ -1,8 +1,7 @@
-use Rattle.std.proofs.Common.{◌≡◌, ℕ, ◌+◌, ◌<◌, ◌≤◌, true, false, cond, leb, List, length, get_or, Ok, Err, sym, refl, ap, ◌∙◌, arith, rules}
+use Rattle.std.proofs.Common.{◌≡◌, ◌+◌, ◌≤◌, true, false, cond, leb, length, get_or, Ok, Err, sym, ap, ◌∙◌, arith}
 use Rattle.wire.specs.declared.fault.Question.TheVariants as question
 use Rattle.std.proofs.lemmas.Result.{err_from_is_err_and}
 use Rattle.std.proofs.lemmas.Bool.{le-leb, lt-leb}
-use Rattle.std.proofs.lemmas.Bool.Decides.{nat_tests}
 use Rattle.wire.specs.Lines.{lines_of}
 use Rattle.wire.specs.Fields.{word, value_of}
 use Rattle.wire.specs.Reports.{judge_lines, said, read_report, content}
