@@ -69,9 +69,9 @@ fn walks_of_four(rt: HostRuntime) {
     let network = Trees { trees: &trees };
     let walk = forward(&network, 1, 4);
     assert_eq!(rt; walk.end(), End::Arrived);
-    assert!(rt; walk.nodes() == [1, 2, 4]);
-    assert!(rt; forward(&network, 3, 2).hops() == [1, 2]);
-    assert!(rt; forward(&network, 4, 1).nodes() == [4]);
+    assert!(rt; walk.nodes() == [1, 2, 4].as_slice());
+    assert!(rt; forward(&network, 3, 2).hops() == [1, 2].as_slice());
+    assert!(rt; forward(&network, 4, 1).nodes() == [4].as_slice());
     assert_eq!(rt; forward(&network, 4, 1).end(), End::Lost);
     assert_eq!(rt; forward(&network, 9, 9).end(), End::Arrived);
 }
@@ -82,6 +82,6 @@ fn walks_in_a_ring(rt: HostRuntime) {
     let network = Trees { trees: &trees };
     let walk = forward(&network, 1, 3);
     assert_eq!(rt; walk.end(), End::Loop);
-    assert!(rt; walk.nodes() == [1, 2, 1, 2]);
+    assert!(rt; walk.nodes() == [1, 2, 1, 2].as_slice());
     assert_eq!(rt; forward(&network, 3, 1).end(), End::Lost);
 }
