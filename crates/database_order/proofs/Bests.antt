@@ -2,7 +2,7 @@
 use Rattle.std.proofs.Common.{◌≡◌, ℕ, ◌<◌, ◌≤◌, List, [], ◌∷◌, Ok, refl, inl, inr, arith}
 use Rattle.std.proofs.ByRecursion.{has_append_right}
 use Rattle.std.proofs.lemmas.Bool.{cases_lt}
-use Rattle.std.specs.List.{ContainsAt as Has, AllByRecursion as All}
+use Rattle.std.specs.List.{ContainsAt as Has, AllByRecursion}
 use Rattle.wire.specs.Reports.{Content}
 use Rattle.entries.specs.declared.entry.Entry.{Entry}
 use Rattle.entries.specs.Freshness.{ahead}
@@ -20,10 +20,10 @@ Below count origin first m b = Each count origin first (λ p. p ≤ m) b
 -- How the entry r comes from the entry e by the reports of bs.
 pub data Best (count origin first : ℕ) (e : Entry) (bs : List (List ℕ)) (r : Entry) : Type 0 where
   -- It is as it was: no report stands behind it, and if it has lapsed there is none.
-  stays : r ≡ e → (1 ≤ e.age → All (Below count origin first (ahead e.serial first)) bs) → (e.age ≡ 0 → All (Each count origin first (λ p. ⊥)) bs) → Best count origin first e bs r
+  stays : r ≡ e → (1 ≤ e.age → AllByRecursion (Below count origin first (ahead e.serial first)) bs) → (e.age ≡ 0 → AllByRecursion (Each count origin first (λ p. ⊥)) bs) → Best count origin first e bs r
   -- It is that of a report, no report stands behind that one, and that one stands behind what was in force.
   comes : (b : List ℕ) (q : Content) → Has bs b → heard count b ≡ Ok q → q.header.origin ≡ origin → r ≡ heard_entry q
-      → All (Below count origin first (ahead q.header.serial first)) bs → (1 ≤ e.age → ahead e.serial first < ahead q.header.serial first) → Best count origin first e bs r
+      → AllByRecursion (Below count origin first (ahead q.header.serial first)) bs → (1 ≤ e.age → ahead e.serial first < ahead q.header.serial first) → Best count origin first e bs r
 
 module _ (count origin first : ℕ) (e : Entry) (b : List ℕ) (bs : List (List ℕ)) (r : Entry) where
   -- one more in front

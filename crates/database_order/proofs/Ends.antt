@@ -5,7 +5,7 @@ use Rattle.std.proofs.lemmas.List.{ext_get_or, get_or-map, length-map}
 use Rattle.std.proofs.lemmas.List.Sorted.{IsPermutation-sym}
 use Rattle.std.proofs.lemmas.Bool.{cases_eq, cases_lt}
 use Rattle.std.specs.List.Sorted.{IsPermutation}
-use Rattle.std.specs.List.{ContainsAt as Has, AllByRecursion as All}
+use Rattle.std.specs.List.{ContainsAt as Has, AllByRecursion}
 use Rattle.wire.specs.declared.lines.Line.{Line}
 use Rattle.wire.specs.Reports.{Content}
 use Rattle.rows.specs.Rows.{lines_in}
@@ -26,7 +26,7 @@ lines e = lines_in e.row
 
 -- Who stays although a report of the same list comes.
 clash : (count origin first : ℕ) (e : Entry) (bs : List (List ℕ)) (b : List ℕ) (q : Content)
-    → (1 ≤ e.age → All (Below count origin first (ahead e.serial first)) bs) → (e.age ≡ 0 → All (Each count origin first (λ p. ⊥)) bs)
+    → (1 ≤ e.age → AllByRecursion (Below count origin first (ahead e.serial first)) bs) → (e.age ≡ 0 → AllByRecursion (Each count origin first (λ p. ⊥)) bs)
     → Has bs b → heard count b ≡ Ok q → q.header.origin ≡ origin → (1 ≤ e.age → ahead e.serial first < ahead q.header.serial first) → ⊥
 clash count origin first e bs b q below silent has brought of beats =
     elim (cases_lt 0 e.age) [
@@ -69,7 +69,7 @@ sizes (b ∷ bs) s = sizes bs (take_state s b) ∙ (taken_alike s b).size
 
 module _ (s : State) (xs ys : List (List ℕ)) (same : IsPermutation xs ys) (ok : Premise s xs) where
   -- what the premise says of each of the bytes
-  near : (origin : ℕ) → All (Below s.count origin (ok.fit origin).first 31) xs
+  near : (origin : ℕ) → AllByRecursion (Below s.count origin (ok.fit origin).first 31) xs
   near origin = All-weaker (Has xs) (Below s.count origin (ok.fit origin).first 31) (λ b has q brought of. (ok.fit origin).reports q (b, has, brought) of) xs (all_has_itself xs)
 
   pub each_same : (origin : ℕ) → 1 ≤ origin → origin ≤ length s.entries → lines (held (taken_all s xs) origin) ≡ lines (held (taken_all s ys) origin)

@@ -1,7 +1,7 @@
 -- Reports taken one after the other, seen from one origin.
 use Rattle.std.proofs.Common.{◌≡◌, ℕ, ◌≤◌, false, List, [], ◌∷◌, length, Ok, sym, refl, ap, ◌∙◌, subst, inl, inr, arith}
 use Rattle.std.proofs.lemmas.Bool.{cases_Bool, or_left, eq-eqb, both_ways}
-use Rattle.std.specs.List.{AllByRecursion as All}
+use Rattle.std.specs.List.{AllByRecursion}
 use Rattle.wire.specs.Reports.{Content}
 use Rattle.entries.specs.declared.entry.Entry.{Entry}
 use Rattle.entries.specs.Freshness.{ahead, newer}
@@ -36,7 +36,7 @@ module _ (count root origin first : ℕ) (low : 1 ≤ origin) (other : origin �
         | inr is ↦ is
       ]
 
-  pub best : (bs : List (List ℕ)) (s : State) → Of s → (1 ≤ (held s origin).age → ahead (held s origin).serial first ≤ 31) → All (Below count origin first 31) bs
+  pub best : (bs : List (List ℕ)) (s : State) → Of s → (1 ≤ (held s origin).age → ahead (held s origin).serial first ≤ 31) → AllByRecursion (Below count origin first 31) bs
       → Best count origin first (held s origin) bs (held (taken_all s bs) origin)
   best [] s h fits near = stays refl (λ f. tt) (λ z. tt)
   best (b ∷ bs) s h fits near =

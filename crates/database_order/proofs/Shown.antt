@@ -4,7 +4,7 @@ use Rattle.std.proofs.ByRecursion.{all-has}
 use Rattle.std.proofs.lemmas.List.{get_or-replicate, get_or_past}
 use Rattle.std.proofs.lemmas.List.Sorted.{IsPermutation-to_front}
 use Rattle.std.proofs.lemmas.Bool.{cases_lt}
-use Rattle.std.specs.List.{AllByRecursion as All}
+use Rattle.std.specs.List.{AllByRecursion}
 use Rattle.wire.specs.declared.lines.Line.{Line}
 use Rattle.wire.specs.Reports.{Content, read_report}
 use Rattle.entries.specs.declared.verdicts.TakeFault.{TakeFault}
@@ -31,7 +31,7 @@ known r q p a b k = let same : q ≡ p = cc in rw same at k
 refused : (r : Result Content TakeFault) (f : TakeFault) (p : Content) → r ≡ Err f → r ≡ Ok p → Known p
 refused r f p a b = let z : ◌≡◌ {A = ℕ} 0 1 = cc in absurd (omega arith)
 
-all_known : All (λ b. (p : Content) → heard 3 b ≡ Ok p → Known p) fitting
+all_known : AllByRecursion (λ b. (p : Content) → heard 3 b ≡ Ok p → Known p) fitting
 unfolding read_report says by_serial
 all_known = (
   (λ p h. known _ (says 2 63 (line 1 200)) p refl h (refl, omega arith)),

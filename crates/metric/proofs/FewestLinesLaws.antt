@@ -1,6 +1,6 @@
 -- Fewest lines, then the smallest worst figure, keeps the four laws, and orders whole paths so. Assumes nothing.
 use Rattle.std.proofs.Common.{◌≡◌, ℕ, ◌+◌, ◌*◌, ◌/◌, ◌≤◌, max, List, [], ◌∷◌, length, fold, refl, ap, ◌∙◌, arith}
-use Rattle.std.specs.List.{AllByRecursion as All}
+use Rattle.std.specs.List.{AllByRecursion}
 use Rattle.metric.specs.Meaning.{Figure, largest_figure, PathCost, none, more, Cost, along}
 use Rattle.metric.specs.Laws.{Laws}
 use Rattle.metric.specs.Metrics.{capped, one_line, fewest_lines, worst, FewestFirst}
@@ -23,14 +23,14 @@ fewest_lines_laws = laws_by_numbers (record {
   swaps = λ a f g ca ok ok'. omega (arith, cost_small ca);
 })
 
-written_from : (n w : ℕ) → w ≤ largest_figure → (fs : List ℕ) → All Figure fs
+written_from : (n w : ℕ) → w ≤ largest_figure → (fs : List ℕ) → AllByRecursion Figure fs
     → fold fewest_lines.add (capped (n * one_line + w)) fs ≡ capped ((n + length fs) * one_line + fold max w fs)
 written_from n w fits [] ok = omega arith
 written_from n w fits (f ∷ fs) ok =
     let step : fewest_lines.add (capped (n * one_line + w)) f ≡ capped ((n + 1) * one_line + max w f) = omega arith in
     ap (λ (c : ℕ). fold fewest_lines.add c fs) step ∙ written_from (n + 1) (max w f) (omega arith) fs ok.1 ∙ omega arith
 
-written : (fs : List ℕ) → All Figure fs → along fewest_lines fs ≡ capped (length fs * one_line + worst fs)
+written : (fs : List ℕ) → AllByRecursion Figure fs → along fewest_lines fs ≡ capped (length fs * one_line + worst fs)
 written fs ok = written_from 0 0 (omega arith) fs ok ∙ omega arith
 
 pub fewest_lines_first : FewestFirst fewest_lines

@@ -1,6 +1,6 @@
 -- The two metrics of this crate, and what they measure of a whole path. Assumes nothing.
 use Rattle.std.specs.Prelude.{◌≡◌, ℕ, ◌+◌, ◌-◌, ◌*◌, ◌/◌, ◌%◌, ◌^◌, ◌≤◌, min, max, Bool, ◌&&◌, ◌||◌, ltb, List, length, fold, sum, ◌==◌, nat_lt}
-use Rattle.std.specs.List.{AllByRecursion as All}
+use Rattle.std.specs.List.{AllByRecursion}
 use Rattle.metric.specs.Meaning.{Meaning, Figure, along}
 
 -- What would pass the 64-bit range is written as its largest number.
@@ -38,6 +38,6 @@ better a b = nat_lt (length a) (length b) || (length a == length b && nat_lt (wo
 -- Kind 2 measures the lines, then the worst figure.
 pub record FewestFirst (m : Meaning) : Type 0 where
   -- A path of any length costs its lines x 65,536 + its worst figure, within the 64-bit range.
-  pub written : (figures : List ℕ) → All Figure figures → along m figures ≡ capped (length figures * one_line + worst figures)
+  pub written : (figures : List ℕ) → AllByRecursion Figure figures → along m figures ≡ capped (length figures * one_line + worst figures)
   -- Of two paths of up to 64 lines, the one costs less than the other exactly if it is better.
-  pub order : (a b : List ℕ) → All Figure a → All Figure b → length a ≤ 64 → length b ≤ 64 → m.less (along m a) (along m b) ≡ better a b
+  pub order : (a b : List ℕ) → AllByRecursion Figure a → AllByRecursion Figure b → length a ≤ 64 → length b ≤ 64 → m.less (along m a) (along m b) ≡ better a b

@@ -1,6 +1,6 @@
 -- The tempting metric: smallest worst figure first, then fewest lines. Assumes nothing.
 use Rattle.std.specs.Prelude.{◌≡◌, ℕ, ◌+◌, ◌*◌, ◌/◌, ◌%◌, ◌≤◌, max, Bool, true, ◌&&◌, ◌||◌, List, [], ◌∷◌, length, ◌==◌, nat_lt}
-use Rattle.std.specs.List.{AllByRecursion as All}
+use Rattle.std.specs.List.{AllByRecursion}
 use Rattle.metric.specs.Meaning.{Meaning, Figure, along}
 use Rattle.metric.specs.Laws.{Laws}
 use Rattle.metric.specs.Metrics.{capped, worst}
@@ -11,7 +11,7 @@ milder a b = nat_lt (worst a) (worst b) || (worst a == worst b && nat_lt (length
 
 -- A metric puts the worst figure first if of two paths of up to 64 lines the one costs less exactly if it is milder.
 abbrev pub WorstFirst : Meaning → Type 0
-WorstFirst m = (a b : List ℕ) → All Figure a → All Figure b → length a ≤ 64 → length b ≤ 64 → m.less (along m a) (along m b) ≡ milder a b
+WorstFirst m = (a b : List ℕ) → AllByRecursion Figure a → AllByRecursion Figure b → length a ≤ 64 → length b ≤ 64 → m.less (along m a) (along m b) ≡ milder a b
 
 -- One way to write such costs: worst figure x 65,536 + lines.
 abbrev pub worst_first : Meaning

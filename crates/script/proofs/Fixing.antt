@@ -1,6 +1,6 @@
 -- The laws of the words of a line.
 use Rattle.std.proofs.Common.{◌≡◌, ℕ, ◌-◌, Bool, true, false, List, [], ◌∷◌, ◌++◌, length, get_or, filter, refl, ap, ◌∙◌, append_assoc, append-nil, arith}
-use Rattle.std.specs.List.{flat_map, AllByRecursion as All}
+use Rattle.std.specs.List.{flat_map, AllByRecursion}
 use Rattle.std.proofs.ByRecursion.{All-push}
 use Rattle.std.proofs.lemmas.List.{length_push, get_or_push, take_at}
 use Rattle.std.proofs.lemmas.Bool.{ne_eqb}
@@ -26,7 +26,7 @@ apart w [] b after h = rw h (ended_append w [] (words_in after))
 apart w (x ∷ before) b after h = apart_more w x before b after (blank x) refl (apart [] before b after h) (apart (w ++ x ∷ []) before b after h)
 
 -- bytes without a blank go on the word that is being read
-solid : (w v : List ℕ) → All (λ b. blank b ≡ false) v → reading w v ≡ ended (w ++ v) []
+solid : (w v : List ℕ) → AllByRecursion (λ b. blank b ≡ false) v → reading w v ≡ ended (w ++ v) []
 solid w [] h = rw append-nil
 solid w (b ∷ v) h = rw h.0 (solid (w ++ b ∷ []) v h.1 ∙ ap (λ u. ended u []) (append_assoc w (b ∷ []) v))
 
@@ -52,16 +52,16 @@ word_laws = record {
 }
 
 -- each word has a byte and no blank
-ended_each : (w : List ℕ) (ws : List (List ℕ)) → All (λ b. blank b ≡ false) w → All Word ws → All Word (ended w ws)
+ended_each : (w : List ℕ) (ws : List (List ℕ)) → AllByRecursion (λ b. blank b ≡ false) w → AllByRecursion Word ws → AllByRecursion Word (ended w ws)
 ended_each [] ws h k = k
 ended_each (b ∷ w) ws h k = ((omega arith, h), k)
 
-each_more : (w : List ℕ) (b : ℕ) (bs : List ℕ) (t : Bool) → blank b ≡ t → All (λ x. blank x ≡ false) w → All Word (words_in bs)
-    → (All (λ x. blank x ≡ false) (w ++ b ∷ []) → All Word (reading (w ++ b ∷ []) bs)) → All Word (reading w (b ∷ bs))
+each_more : (w : List ℕ) (b : ℕ) (bs : List ℕ) (t : Bool) → blank b ≡ t → AllByRecursion (λ x. blank x ≡ false) w → AllByRecursion Word (words_in bs)
+    → (AllByRecursion (λ x. blank x ≡ false) (w ++ b ∷ []) → AllByRecursion Word (reading (w ++ b ∷ []) bs)) → AllByRecursion Word (reading w (b ∷ bs))
 each_more w b bs true e h new on = rw e (ended_each w (words_in bs) h new)
 each_more w b bs false e h new on = rw e (on (All-push (λ x. blank x ≡ false) w b h e))
 
-each : (w bs : List ℕ) → All (λ b. blank b ≡ false) w → All Word (reading w bs)
+each : (w bs : List ℕ) → AllByRecursion (λ b. blank b ≡ false) w → AllByRecursion Word (reading w bs)
 each w [] h = ended_each w [] h tt
 each w (b ∷ bs) h = each_more w b bs (blank b) refl h (each [] bs tt) (each (w ++ b ∷ []) bs)
 

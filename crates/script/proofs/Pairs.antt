@@ -2,7 +2,7 @@
 use Rattle.std.proofs.Common.{◌≡◌, ℕ, ◌+◌, ◌*◌, ◌/◌, ◌%◌, ◌<◌, ◌≤◌, Bool, true, false, eqb, List, [], ◌∷◌, ◌++◌, map, length, get_or, drop, Some, None, Option, sym, refl, ap, ◌∙◌, append_assoc, arith}
 use native.Mathlib.Nat.{div-add-mod}
 use Rattle.std.specs.Option.{option_map}
-use Rattle.std.specs.List.{AllByRecursion as All}
+use Rattle.std.specs.List.{AllByRecursion}
 use Rattle.std.proofs.iter.runs.Lists.{none-some, same_Some}
 use Rattle.std.proofs.lemmas.Nat.{div_below, mod_below, div-mul-add, mod-mul-add}
 use Rattle.std.proofs.lemmas.List.{drop_more}
@@ -62,11 +62,11 @@ digit_back d h = grind (arith, nat_tests)
 byte_back : (b : ℕ) → b < 256 → byte_of (digit_byte (b / 16)) (digit_byte (b % 16)) ≡ Some b
 byte_back b h = rw (digit_back (b / 16) (div_below b 16 16 (omega arith) (omega arith)), digit_back (b % 16) (mod_below b 16 (omega arith))) (ap Some (div-add-mod b 16))
 
-pairs_back : (bs : List ℕ) → All (λ b. b < 256) bs → pairs_of (digits_of bs) ≡ Some bs
+pairs_back : (bs : List ℕ) → AllByRecursion (λ b. b < 256) bs → pairs_of (digits_of bs) ≡ Some bs
 pairs_back [] h = refl
 pairs_back (b ∷ bs) h = rw (byte_back b h.0, pairs_back bs h.1) refl
 
-back : (bs : List ℕ) → All (λ b. b < 256) bs → bytes_of (hex_of bs) ≡ Some bs
+back : (bs : List ℕ) → AllByRecursion (λ b. b < 256) bs → bytes_of (hex_of bs) ≡ Some bs
 back [] h = refl
 back (b ∷ bs) h = pairs_back (b ∷ bs) h
 

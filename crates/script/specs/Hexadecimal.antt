@@ -1,7 +1,7 @@
 -- Which words are bytes, and how bytes are written.
 use Rattle.std.specs.Prelude.{◌≡◌, ℕ, ◌+◌, ◌-◌, ◌*◌, ◌/◌, ◌%◌, ◌<◌, cond, List, [], ◌∷◌, map, Some, None, Option, ◌==◌, nat_lt}
 use Rattle.std.specs.Int.{is_in_range}
-use Rattle.std.specs.List.{AllByRecursion as All}
+use Rattle.std.specs.List.{AllByRecursion}
 
 -- The value of a hexadecimal digit, of either case; no other byte has one.
 abbrev pub digit_value : ℕ → Option ℕ
@@ -50,6 +50,6 @@ lower b = cond (is_in_range 65 90 b) (b + 32) b
 -- The laws of bytes as words.
 pub record HexLaws : Type 0 where
   -- bytes that were written are read back
-  pub back : (bs : List ℕ) → All (λ b. b < 256) bs → bytes_of (hex_of bs) ≡ Some bs
+  pub back : (bs : List ℕ) → AllByRecursion (λ b. b < 256) bs → bytes_of (hex_of bs) ≡ Some bs
   -- a word that is read as bytes is, in lower case, what is written for them
   pub forth : (word bs : List ℕ) → bytes_of word ≡ Some bs → hex_of bs ≡ map lower word

@@ -1,6 +1,6 @@
 -- How a line falls into words.
 use Rattle.std.specs.Prelude.{◌≡◌, ℕ, ◌-◌, ◌<◌, Bool, true, false, cond, not, ◌||◌, List, [], ◌∷◌, ◌++◌, length, take, filter, ◌==◌, ◌≢◌, slice_index}
-use Rattle.std.specs.List.{flat_map, AllByRecursion as All}
+use Rattle.std.specs.List.{flat_map, AllByRecursion}
 
 -- A blank is a space or a tab.
 abbrev pub blank : ℕ → Bool
@@ -35,11 +35,11 @@ words_of line = words_in (body line)
 
 -- A word has a byte at least, and no blank.
 abbrev pub Word : List ℕ → Type 0
-Word w = (0 < length w) × All (λ b. blank b ≡ false) w
+Word w = (0 < length w) × AllByRecursion (λ b. blank b ≡ false) w
 
 -- What holds of the words of a line: each is a word, and joined they are the line's bytes without its blanks, in order.
 pub record WordsOfLine (line : List ℕ) : Type 0 where
-  pub each : All Word (words_of line)
+  pub each : AllByRecursion Word (words_of line)
   pub whole : flat_map (λ w. w) (words_of line) ≡ filter (is_blank false) (body line)
 
 -- The laws that alone fix the words of every line.

@@ -3,7 +3,7 @@ use Rattle.std.proofs.Common.{◌≡◌, ℕ, zero, suc, ◌+◌, ◌<◌, ◌�
 use mathlib.Core.Path.{subst⁻¹}
 use Rattle.std.proofs.lemmas.List.{at_drop_more}
 use Rattle.std.proofs.lemmas.Bool.{and_parts, leb-true, cases_Bool, eqb-true, eq-eqb, ne_eqb, cond-true, cond-false}
-use Rattle.std.specs.List.{AllByRecursion as All}
+use Rattle.std.specs.List.{AllByRecursion}
 use Rattle.wire.specs.declared.lines.Line.{Line}
 use Rattle.rows.specs.Rows.{no_line, allowed, figures_fit}
 use Rattle.rows.proofs.Facts.{neighbour_at, figure_at, first_allowed, rest_allowed, lines_allowed}
@@ -52,7 +52,7 @@ module _ (count node : ℕ) where
       cond-false (eqb x.neighbour v) x.figure (figure_to v xs) (ne_eqb x.neighbour v (λ e. omega arith)) ∙ figure_at_lem x.neighbour xs i rest (omega arith)
 
   -- no figure is 0
-  pub all_figures : (previous : ℕ) (lines : List Line) → allowed count node previous lines ≡ true → All (λ x. 1 ≤ x.figure) lines
+  pub all_figures : (previous : ℕ) (lines : List Line) → allowed count node previous lines ≡ true → AllByRecursion (λ x. 1 ≤ x.figure) lines
   all_figures previous [] h = tt
   all_figures previous (x ∷ xs) h = ((first_allowed count node previous x xs h).figure, all_figures x.neighbour xs (rest_allowed count node previous x xs h))
 

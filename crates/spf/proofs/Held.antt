@@ -3,7 +3,7 @@ use Rattle.std.proofs.Common.{◌≡◌, ℕ, zero, suc, ◌+◌, ◌-◌, ◌<�
 use mathlib.Core.Path.{subst⁻¹}
 use Rattle.std.proofs.lemmas.List.{get_or_default, get_or-set_same, get_or-set_other}
 use Rattle.std.proofs.lemmas.Bool.{and_parts, and_from, eqb-true, cases_lt, le-leb, lt-leb, cond-true, cond-false}
-use Rattle.std.specs.List.{AllByRecursion as All}
+use Rattle.std.specs.List.{AllByRecursion}
 use Rattle.wire.specs.declared.lines.Line.{Line}
 use Rattle.rows.specs.declared.row.Row.{Row}
 use Rattle.rows.specs.Rows.{lines_in, no_row, allowed, allowed_row, figures_fit}
@@ -91,11 +91,11 @@ module _ (count : ℕ) (rows : List Row) (held : allowed_rows count 1 rows ≡ t
       let none = eqb-true row.used 0 (sym (cond-false (leb (suc i) count) (allowed_row count (suc i) row && figures_fit (lines_in row)) (eqb row.used 0) (lt-leb (suc i) count past)) ∙ at_place i) in
       ap (λ (n : ℕ). take n row.lines) none
 
-  pub figured_from : (u : ℕ) → All (λ x. 1 ≤ x.figure) (lines_from rows u)
+  pub figured_from : (u : ℕ) → AllByRecursion (λ x. 1 ≤ x.figure) (lines_from rows u)
   figured_from zero = tt
   figured_from (suc i) = elim (cases_lt i count) [
     | inl less ↦ all_figures count (suc i) 0 (lines_from rows (suc i)) (lines_allowed_from (suc i) (omega arith) (omega arith))
-    | inr past ↦ subst⁻¹ (All (λ (x : Line). 1 ≤ x.figure)) (lines_past (suc i) (omega arith)) tt
+    | inr past ↦ subst⁻¹ (AllByRecursion (λ (x : Line). 1 ≤ x.figure)) (lines_past (suc i) (omega arith)) tt
   ]
 
 -- ---- figures and lines

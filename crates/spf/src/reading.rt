@@ -1,6 +1,6 @@
 // What a map holds.
 ghost use Rattle.std.specs.Prelude.{◌≡◌, ℕ, ◌<◌, ◌≤◌, true, []};
-ghost use Rattle.std.specs.List.{AllByRecursion as All};
+ghost use Rattle.std.specs.List.{AllByRecursion};
 ghost use Rattle.rows.specs.Rows.{allowed};
 ghost use Rattle.spf.specs.Maps.{Node, Sound};
 ghost use Rattle.spf.specs.Model.{map_of};
@@ -12,7 +12,7 @@ use wire::lines::Line;
 
 // The figure of the line to a node among some lines, none of which has the figure 0.
 fn figure_to(node: u8, lines: &[Line]) -> Option<u16>
-    requires { All (λ x. 1 ≤ x.figure) lines.now }
+    requires { AllByRecursion (λ x. 1 ≤ x.figure) lines.now }
     ensures { result ≡ shown_figure (figure_to node lines.now) }
 {
     for line in lines {
