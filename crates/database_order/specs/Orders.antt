@@ -43,6 +43,6 @@ pub record Premise (s : State) (bs : List (List ℕ)) : Type 0 where
   pub one : (p q : Content) → Brought s.count bs p → Brought s.count bs q → p.header.origin ≡ q.header.origin → p.header.serial ≡ q.header.serial
       → p.lines ≡ q.lines
 
--- The same bytes, taken in any two orders (`Shuffled`: one list is the other after some exchanges of two places), end with the same lines in every entry; refused ones and those of the root's own number may be among them.
+-- The same bytes, taken in any two orders (`IsPermutation`: one list is the other after some exchanges of two places), end with the same lines in every entry; refused ones and those of the root's own number may be among them.
 abbrev pub OrderFree : Type 0
 OrderFree = (s : State) (xs ys : List (List ℕ)) → IsPermutation xs ys → Premise s xs → lines_held (taken_all s xs) ≡ lines_held (taken_all s ys)

@@ -1,5 +1,5 @@
 -- Which report of an origin is newer.
-use Rattle.std.specs.Prelude.{◌≡◌, ◌⊎◌, Bool, cond, ◌&&◌, ◌||◌, ℕ, ◌+◌, ◌-◌, ◌%◌, ◌≤◌, leb, eqb}
+use Rattle.std.specs.Prelude.{◌≡◌, ◌⊎◌, Bool, cond, ◌&&◌, ◌||◌, ℕ, ◌+◌, ◌-◌, ◌%◌, ◌≤◌, nat_le, ◌==◌}
 use Rattle.entries.specs.declared.entry.Entry.{Entry}
 use Rattle.entries.specs.declared.freshness.Freshness.{Freshness}
 use Rattle.entries.specs.declared.freshness.Freshness.TheVariants as compared
@@ -10,11 +10,11 @@ ahead new held = (new % 64 + 64 - held % 64) % 64
 
 -- A report is newer where nothing is in force, or where its serial is 1 to 31 ahead of the held one.
 abbrev pub newer : Entry → ℕ → Bool
-newer held new = eqb held.age 0 || (leb 1 (ahead new held.serial) && leb (ahead new held.serial) 31)
+newer held new = held.age == 0 || (nat_le 1 (ahead new held.serial) && nat_le (ahead new held.serial) 31)
 
 -- What a report with this serial is to the entry.
 abbrev pub freshness : Entry → ℕ → Freshness
-freshness held new = cond (newer held new) compared.Newer (cond (eqb new held.serial) compared.Duplicate compared.Older)
+freshness held new = cond (newer held new) compared.Newer (cond (new == held.serial) compared.Duplicate compared.Older)
 
 -- The entry is in force, and the serial is not 1 to 31 ahead of it.
 abbrev pub NotNewer : Entry → ℕ → Type 0

@@ -4,7 +4,7 @@ use Rattle.line.specs.Moves.{Shown, shown, fresh}
 use Rattle.line.specs.declared.states.Down.{Down}
 use Rattle.line.specs.declared.states.Record.TheVariants as record_of
 use Rattle.line.specs.declared.making.Refusal.{Refusal}
-use Rattle.line.specs.declared.making.Refusal.TheVariants as refusal-of
+use Rattle.line.specs.declared.making.Refusal.TheVariants as refusal_of
 
 -- What asking for a record gives.
 pub data Made : Type 0 where
@@ -16,9 +16,9 @@ pub data Made : Type 0 where
 -- The number of each refusal.
 abbrev pub number_of : Refusal → ℕ
 -- The slot does not lie in 1 to 8.
-number_of refusal-of.Slot = 51
+number_of refusal_of.Slot = 51
 -- The neighbour does not lie in 1 to 64.
-number_of refusal-of.Neighbour = 52
+number_of refusal_of.Neighbour = 52
 
 -- What each answer says.
 abbrev pub answer : Result Down Refusal → Made

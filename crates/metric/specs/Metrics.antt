@@ -1,5 +1,5 @@
 -- The two metrics of this crate, and what they measure of a whole path. Assumes nothing.
-use Rattle.std.specs.Prelude.{◌≡◌, ℕ, ◌+◌, ◌-◌, ◌*◌, ◌/◌, ◌%◌, ◌^◌, ◌≤◌, min, max, Bool, ◌&&◌, ◌||◌, ltb, List, length, fold, sum, ◌==◌, nat_lt}
+use Rattle.std.specs.Prelude.{◌≡◌, ℕ, ◌+◌, ◌-◌, ◌*◌, ◌/◌, ◌%◌, ◌^◌, ◌≤◌, min, max, Bool, ◌&&◌, ◌||◌, List, length, fold, sum, ◌==◌, nat_lt}
 use Rattle.std.specs.List.{AllByRecursion}
 use Rattle.metric.specs.Meaning.{Meaning, Figure, along}
 
@@ -9,7 +9,7 @@ capped n = min n (2 ^ 64 - 1)
 
 -- Kind 1: the sum of the figures.
 abbrev pub delay : Meaning
-delay = record { empty = 0; add = λ c f. capped (c + f); less = ltb }
+delay = record { empty = 0; add = λ c f. capped (c + f); less = nat_lt }
 
 -- What each line counts in a cost of kind 2: one more than the largest figure.
 abbrev pub one_line : ℕ
@@ -20,7 +20,7 @@ abbrev pub fewest_lines : Meaning
 fewest_lines = record {
   empty = 0;
   add = λ c f. capped ((c / one_line + 1) * one_line + max (c % one_line) f);
-  less = ltb;
+  less = nat_lt;
 }
 
 -- Kind 1 measures the sum: a path of any length costs the sum of its figures, within the 64-bit range.
