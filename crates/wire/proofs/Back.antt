@@ -1,5 +1,5 @@
 -- The form of an allowed report reads as what it says.
-use Rattle.std.proofs.Common.{◌≡◌, ℕ, ◌+◌, ◌*◌, ◌%◌, ◌≤◌, Bool, true, false, leb, List, length, get_or, Ok, refl, ap, ◌∙◌, arith}
+use Rattle.std.proofs.Common.{◌≡◌, ℕ, ◌+◌, ◌*◌, ◌%◌, ◌≤◌, Bool, true, false, nat_le, List, length, get_or, Ok, refl, ap, ◌∙◌, arith}
 use Rattle.std.proofs.lemmas.List.{take_all}
 use Rattle.std.proofs.lemmas.Bool.{le-leb, eq-eqb, and_from}
 use Rattle.std.proofs.lemmas.Bool.Decides.{nat_tests}
@@ -27,7 +27,7 @@ low : (a : ℕ) (r : Bool) → a ≤ 7 → age_byte a r % 128 ≡ a
 low a true h = omega arith
 low a false h = omega arith
 
-high : (a : ℕ) (r : Bool) → a ≤ 7 → leb 128 (age_byte a r) ≡ r
+high : (a : ℕ) (r : Bool) → a ≤ 7 → nat_le 128 (age_byte a r) ≡ r
 high a true h = grind (arith, nat_tests)
 high a false h = grind (arith, nat_tests)
 

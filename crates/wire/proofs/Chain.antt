@@ -1,5 +1,5 @@
 -- The reader's way through the fields of a report: where it stops, and where it comes to the end.
-use Rattle.std.proofs.Common.{◌≡◌, ℕ, ◌+◌, cond, leb, List, ◌++◌, length, get_or, Ok, Err, sym, ◌∙◌}
+use Rattle.std.proofs.Common.{◌≡◌, ℕ, ◌+◌, if◌then◌else◌, nat_le, List, ◌++◌, length, get_or, Ok, Err, sym, ◌∙◌}
 use Rattle.wire.specs.declared.fault.ReadFault.{ReadFault}
 use Rattle.wire.specs.declared.fault.Question.TheVariants as question
 use Rattle.wire.specs.declared.field.Tag.{Tag}
@@ -59,5 +59,5 @@ module _ (b : List ℕ) where
           stops_at_lines e h = sym (fields_go_on ∙ stops (line_questions (get_or b 3 0) 0 15 (lines_of (value_of 12 b))) (after_lines b) tt (said b) e (sym h))
 
           pub ends : Ok tt ≡ judge_lines (get_or b 3 0) 0 15 (lines_of (value_of 12 b))
-              → read_report b ≡ cond (leb (length b) (15 + word 13 b)) (Ok (said b)) (Err (record { question = question.NothingLeftOver; place = 15 + word 13 b }))
+              → read_report b ≡ (if nat_le (length b) (15 + word 13 b) then Ok (said b) else Err (record { question = question.NothingLeftOver; place = 15 + word 13 b }))
           ends h = fields_go_on ∙ goes_on (line_questions (get_or b 3 0) 0 15 (lines_of (value_of 12 b))) (after_lines b) tt tt (said b) (sym h)

@@ -1,5 +1,5 @@
 -- Bytes that read are the form of what they say.
-use Rattle.std.proofs.Common.{◌≡◌, ℕ, zero, suc, ◌+◌, ◌*◌, ◌/◌, ◌%◌, ◌<◌, ◌≤◌, true, eqb, leb, List, ◌∷◌, length, get_or, drop, Ok, sym, refl, ap, ◌∙◌, inl, inr, arith}
+use Rattle.std.proofs.Common.{◌≡◌, ℕ, zero, suc, ◌+◌, ◌*◌, ◌/◌, ◌%◌, ◌<◌, ◌≤◌, true, nat_eq, nat_le, List, ◌∷◌, length, get_or, drop, Ok, sym, refl, ap, ◌∙◌, inl, inr, arith}
 use Rattle.std.proofs.lemmas.List.{drop_more, take_all, length-drop, get_or-drop}
 use Rattle.std.proofs.lemmas.Bool.{leb-true, eqb-true, and_parts}
 use Rattle.std.proofs.lemmas.Bool.Decides.{nat_tests, leb_tells}
@@ -22,10 +22,10 @@ unfolding reads
 reads_all zero i b h = refl
 reads_all (suc n) i b h = ap (λ r. get_or b i 0 ∷ r) (reads_all n (i + 1) b (omega arith)) ∙ sym (drop_more b i 0 (omega arith))
 
-one : (h l : ℕ) → eqb (h * 256 + l) 1 ≡ true → (h ≡ 0) × (l ≡ 1)
+one : (h l : ℕ) → nat_eq (h * 256 + l) 1 ≡ true → (h ≡ 0) × (l ≡ 1)
 one h l e = let f = eqb-true (h * 256 + l) 1 e in (omega arith, omega arith)
 
-age_back : (v : ℕ) → v < 256 → age_byte (v % 128) (leb 128 v) ≡ v
+age_back : (v : ℕ) → v < 256 → age_byte (v % 128) (nat_le 128 v) ≡ v
 age_back v h = elim (leb_tells 128 v) [
   | inl p ↦ rw p.0 (omega (arith, p.1))
   | inr p ↦ rw p.0 (omega (arith, p.1))
@@ -40,7 +40,7 @@ spell b l h w n e0 e1 e2 e4 e5 e6 e8 e9 e10 e12 e13 e14 e15 = let s = reads_all 
 
 module _ (b : List ℕ) (bytes : Bytes b) (ok : AllPassed b) where
   sizes : (word 13 b % 3 ≡ 0) × (word 13 b ≤ 24)
-  sizes = let p = and_parts (eqb (word 13 b % 3) 0) (leb (word 13 b) 24) ok.pairs.size in
+  sizes = let p = and_parts (nat_eq (word 13 b % 3) 0) (nat_le (word 13 b) 24) ok.pairs.size in
       (eqb-true (word 13 b % 3) 0 p.0, leb-true (word 13 b) 24 p.1)
 
   pairs_rest : value_of 12 b ≡ drop 15 b

@@ -1,67 +1,58 @@
--- A field's frame, and then its value.
-use Rattle.std.proofs.Common.{◌≡◌, ℕ, ◌+◌, ◌%◌, true, cond, leb, List, [], ◌∷◌, length, get_or, take, drop, Ok, Err, sym, refl, ap, ◌∙◌, arith}
+-- A field whose frame is as it has to be, and what its value says.
+use Rattle.std.proofs.Common.{◌≡◌, ℕ, ◌+◌, ◌-◌, ◌*◌, ◌<◌, ◌≤◌, true, false, if◌then◌else◌, List, length, get_or, slice_range, take, drop, Ok, Err, Option, Some, None, MatchOption, refl, sym, ap, ◌∙◌, arith}
+use Rattle.std.specs.Option.{ok_or}
 use Rattle.std.proofs.lemmas.List.{get_or-take, get_or-drop}
-use Rattle.std.proofs.lemmas.Bool.{eqb-true}
-use Rattle.wire.specs.declared.fault.ReadFault.{ReadFault}
+use Rattle.std.proofs.lemmas.Bool.{le-leb, eq-eqb, eqb-true}
 use Rattle.wire.specs.declared.fault.Question.TheVariants as question
 use Rattle.wire.specs.declared.field.Tag.{Tag}
 use Rattle.wire.specs.declared.field.Tag.TheVariants as tag
-use Rattle.wire.specs.Faults.{asked}
-use Rattle.wire.specs.Fields.{frame_questions, frame_of, value_of, permitted_length, permitted_value, field_value, field_at, Value, origin, serial, age, pairs}
-use Rattle.wire.proofs.Judging.{stops, goes_on, comes}
+use Rattle.wire.specs.declared.field.Field.{Field}
+use Rattle.wire.specs.Faults.{no_at}
+use Rattle.wire.specs.Fields.{word, value_of, tag_number, permitted_length, permitted_value, field_value, value_says, field_at, shown, shown_field, origin, serial}
+
+-- The first byte of a value of one byte, where it stands in the input.
+first : (p n : ℕ) (b : List ℕ) → n ≡ 1 → get_or (take n (drop p b)) 0 0 ≡ get_or b p 0
+first p n b e =
+    get_or-take n (drop p b) 0 0 (omega arith) ∙ get_or-drop p b 0 0 ∙ ap (λ i. get_or b i 0) (let z : p + 0 ≡ p = omega arith in z)
+
+-- A byte of the rest from p on, where it stands in the input.
+behind : (p k i : ℕ) (b s : List ℕ) → s ≡ slice_range b p (length b) → i ≡ p + k → i < length b → get_or s k 0 ≡ get_or b i 0
+behind p k i b s is e l = ap (λ xs. get_or xs k 0) is ∙ get_or-take (length b - p) (drop p b) k 0 (omega arith) ∙ get_or-drop p b k 0 ∙ ap (λ j. get_or b j 0) (sym e)
+
+-- The bytes of the value may be what the byte behind the frame may be, and say what the field says.
+same : (t : Tag) (p : ℕ) (b : List ℕ) → permitted_length t (word (p + 1) b) ≡ true
+    → (permitted_value t (get_or (value_of p b) 0 0) ≡ permitted_value t (get_or b (p + 3) 0)) × (value_says t (value_of p b) ≡ field_value t p b)
+same tag.Origin p b size = let e = first (p + 3) (word (p + 1) b) b (eqb-true _ 1 size) in (ap (permitted_value tag.Origin) e, ap origin e)
+same tag.Serial p b size = let e = first (p + 3) (word (p + 1) b) b (eqb-true _ 1 size) in (ap (permitted_value tag.Serial) e, ap serial e)
+same tag.Age p b size = let e = first (p + 3) (word (p + 1) b) b (eqb-true _ 1 size) in (ap (permitted_value tag.Age) e, rw e refl)
+same tag.Pairs p b size = (refl, refl)
 
 module _ (t : Tag) (p : ℕ) (b : List ℕ) where
-  pub frame_stops : (e : ReadFault) → Err e ≡ frame_of t p b → Err e ≡ field_at t p b
+  -- A good frame leaves the question on the value.
+  framed : p + 3 ≤ length b → get_or b p 0 ≡ tag_number t → permitted_length t (word (p + 1) b) ≡ true → p + 3 + word (p + 1) b ≤ length b
+      → field_at t p b ≡ (if permitted_value t (get_or b (p + 3) 0) then Ok (field_value t p b) else Err (no_at question.PermittedValue (p + 3)))
   unfolding field_at
-  frame_stops e h = let k = stops (frame_questions t p b) (asked (permitted_value t (get_or b (p + 3) 0)) question.PermittedValue (p + 3) ∷ []) (value_of p b) (field_value t p b) e (sym h) in sym k
+  framed there tagged size whole =
+      rw (le-leb (p + 3) (length b) there, eq-eqb (get_or b p 0) (tag_number t) tagged, size, le-leb (p + 3 + word (p + 1) b) (length b) whole) refl
 
-  pub frame_goes_on : (v : List ℕ) → Ok v ≡ frame_of t p b
-      → field_at t p b ≡ cond (permitted_value t (get_or b (p + 3) 0)) (Ok (field_value t p b)) (Err (record { question = question.PermittedValue; place = p + 3 }))
-  unfolding field_at
-  frame_goes_on v h = goes_on (frame_questions t p b) (asked (permitted_value t (get_or b (p + 3) 0)) question.PermittedValue (p + 3) ∷ []) (value_of p b) v (field_value t p b) (sym h)
-
-  pub frame_comes : (v : List ℕ) → Ok v ≡ frame_of t p b → value_of p b ≡ v
-  frame_comes v h = comes (frame_questions t p b) (value_of p b) v (sym h)
-
--- A value that is no list of pairs has one byte.
-pub one_byte : (t : Tag) (n : ℕ) → permitted_length t n ≡ true → (t ≡ tag.Pairs → ⊥) → n ≡ 1
-one_byte tag.Origin n h no_pairs = eqb-true n 1 h
-one_byte tag.Serial n h no_pairs = eqb-true n 1 h
-one_byte tag.Age n h no_pairs = eqb-true n 1 h
-one_byte tag.Pairs n h no_pairs = absurd (no_pairs refl)
-
--- That byte, where it stands in the input.
-pub first_byte : (p : ℕ) (b v : List ℕ) → v ≡ take (length v) (drop p b) → length v ≡ 1 → get_or v 0 0 ≡ get_or b p 0
-first_byte p b v e l =
-    ap (λ s. get_or s 0 0) e
-    ∙ get_or-take (length v) (drop p b) 0 0 (omega arith)
-    ∙ get_or-drop p b 0 0
-    ∙ ap (λ i. get_or b i 0) (let z : p + 0 ≡ p = omega arith in z)
-
--- What a value of one byte says.
-abbrev pub byte_value : Tag → ℕ → Value
-byte_value tag.Origin v = origin v
-byte_value tag.Serial v = serial v
-byte_value tag.Age v = age (v % 128) (leb 128 v)
-byte_value tag.Pairs v = pairs []
-
-byte_value_lem : (t : Tag) (p : ℕ) (b : List ℕ) → (t ≡ tag.Pairs → ⊥) → field_value t p b ≡ byte_value t (get_or b (p + 3) 0)
-byte_value_lem tag.Origin p b no_pairs = refl
-byte_value_lem tag.Serial p b no_pairs = refl
-byte_value_lem tag.Age p b no_pairs = refl
-byte_value_lem tag.Pairs p b no_pairs = absurd (no_pairs refl)
-
--- A permitted byte is the field's value.
-pub byte_comes : (t u : Tag) (p : ℕ) (b v : List ℕ) → t ≡ u → (t ≡ tag.Pairs → ⊥) → Ok v ≡ frame_of t p b → get_or v 0 0 ≡ get_or b (p + 3) 0
-    → true ≡ permitted_value t (get_or v 0 0) → Ok (byte_value u (get_or v 0 0)) ≡ field_at t p b
-byte_comes t u p b v is no_pairs h first good =
-    let good' : permitted_value t (get_or b (p + 3) 0) ≡ true = rw first at (sym good) in
-    let g = frame_goes_on t p b v h in
-    sym (rw good' at g ∙ ap Ok (byte_value_lem t p b no_pairs ∙ (λ i. byte_value (is i) (sym first i))))
-
--- The pairs are the field's value.
-pub pairs_come : (t : Tag) (p : ℕ) (b v : List ℕ) → t ≡ tag.Pairs → Ok v ≡ frame_of t p b → Ok (pairs v) ≡ field_at t p b
-pairs_come tag.Pairs p b v is h = sym (frame_goes_on tag.Pairs p b v h ∙ ap (λ s. Ok (pairs s)) (frame_comes tag.Pairs p b v h))
-pairs_come tag.Origin p b v is h = let z : ◌≡◌ {A = ℕ} 0 1 = cc in absurd (omega arith)
-pairs_come tag.Serial p b v is h = let z : ◌≡◌ {A = ℕ} 0 1 = cc in absurd (omega arith)
-pairs_come tag.Age p b v is h = let z : ◌≡◌ {A = ℕ} 0 1 = cc in absurd (omega arith)
+  -- The answer to that question is the field's, whose frame was read at the start s of the bytes from p on.
+  pub value_comes : (s : List ℕ) (n : ℕ) (r : Option Field) → s ≡ slice_range b p (length b) → length s + p ≡ length b → 3 ≤ length s
+      → get_or s 0 0 ≡ tag_number t → n ≡ get_or s 1 0 * 256 + get_or s 2 0 → permitted_length t n ≡ true → n + 3 ≤ length s
+      → (let v = slice_range b (p + 3) (p + 3 + n) in MatchOption r (permitted_value t (get_or v 0 0) ≡ false) (λ f. (permitted_value t (get_or v 0 0) ≡ true) × (shown f ≡ value_says t v)))
+      → shown_field (ok_or r (no_at question.PermittedValue (p + 3))) ≡ field_at t p b
+  value_comes s n r is long three tagged size permits whole says =
+      let v = slice_range b (p + 3) (p + 3 + n) in
+      let first_is : get_or b p 0 ≡ tag_number t = sym (behind p 0 p b s is (omega arith) (omega arith)) ∙ tagged in
+      let n_is : n ≡ word (p + 1) b = size ∙ (λ i. behind p 1 (p + 1) b s is refl (omega arith) i * 256 + behind p 2 (p + 1 + 1) b s is (omega arith) (omega arith) i) in
+      let permits' : permitted_length t (word (p + 1) b) ≡ true = rw n_is at permits in
+      let value' : v ≡ value_of p b = ap (λ k. take k (drop (p + 3) b)) (let e : p + 3 + n - (p + 3) ≡ word (p + 1) b = omega arith in e) in
+      let f = framed (omega arith) first_is permits' (omega (arith, n_is)) in
+      let e = same t p b permits' in
+      elim r as (λ o. MatchOption o (permitted_value t (get_or v 0 0) ≡ false) (λ g. (permitted_value t (get_or v 0 0) ≡ true) × (shown g ≡ value_says t v))
+      → shown_field (ok_or o (no_at question.PermittedValue (p + 3))) ≡ field_at t p b) [
+        | None ↦ λ h. let no : permitted_value t (get_or b (p + 3) 0) ≡ false = rw (value', e.0) at h in rw (f, no) refl
+        | Some x ↦ λ h.
+            let yes : permitted_value t (get_or b (p + 3) 0) ≡ true = rw (value', e.0) at h.0 in
+            let what : shown x ≡ field_value t p b = rw (value', e.1) at h.1 in
+            rw (f, yes) (ap Ok what)
+      ] says

@@ -1,5 +1,5 @@
 -- How the first no of a list of questions shows in a longer list.
-use Rattle.std.proofs.Common.{◌≡◌, ℕ, Bool, true, false, cond, List, [], ◌∷◌, ◌++◌, Ok, Err, Result, refl, arith}
+use Rattle.std.proofs.Common.{◌≡◌, ℕ, Bool, true, false, if◌then◌else◌, List, [], ◌∷◌, ◌++◌, Ok, Err, Result, refl, arith}
 use Rattle.wire.specs.declared.fault.ReadFault.{ReadFault}
 use Rattle.wire.specs.Faults.{Asked, judged}
 
@@ -8,11 +8,11 @@ pub apart : {X Y : Type 0} (x : X) (e : ReadFault) → ◌≡◌ {A = Result X R
 apart x e h = let z : ◌≡◌ {A = ℕ} 0 1 = cc in absurd (omega arith)
 
 module _ {X Y : Type 0} (r : Result X ReadFault) (s : Result Y ReadFault) where
-  one_stops : (t : Bool) (f e : ReadFault) → (r ≡ Err e → s ≡ Err e) → cond t r (Err f) ≡ Err e → cond t s (Err f) ≡ Err e
+  one_stops : (t : Bool) (f e : ReadFault) → (r ≡ Err e → s ≡ Err e) → (if t then r else Err f) ≡ Err e → (if t then s else Err f) ≡ Err e
   one_stops true f e k h = k h
   one_stops false f e k h = cc
 
-  one_goes_on : (t : Bool) (f : ReadFault) (z : X) (goal : Result Y ReadFault) → (r ≡ Ok z → s ≡ goal) → cond t r (Err f) ≡ Ok z → cond t s (Err f) ≡ goal
+  one_goes_on : (t : Bool) (f : ReadFault) (z : X) (goal : Result Y ReadFault) → (r ≡ Ok z → s ≡ goal) → (if t then r else Err f) ≡ Ok z → (if t then s else Err f) ≡ goal
   one_goes_on true f z goal k h = k h
   one_goes_on false f z goal k h = let n : ◌≡◌ {A = ℕ} 0 1 = cc in absurd (omega arith)
 
@@ -26,7 +26,7 @@ pub goes_on : {X Y : Type 0} (qs more : List Asked) (x z : X) (y : Y) → judged
 goes_on [] more x z y h = refl
 goes_on (a ∷ qs) more x z y h = one_goes_on (judged qs x) (judged (qs ++ more) y) a.yes _ z (judged more y) (goes_on qs more x z y) h
 
-one_comes : {X : Type 0} (t : Bool) (r : Result X ReadFault) (f : ReadFault) (x z : X) → (r ≡ Ok z → x ≡ z) → cond t r (Err f) ≡ Ok z → x ≡ z
+one_comes : {X : Type 0} (t : Bool) (r : Result X ReadFault) (f : ReadFault) (x z : X) → (r ≡ Ok z → x ≡ z) → (if t then r else Err f) ≡ Ok z → x ≡ z
 one_comes true r f x z k h = k h
 one_comes false r f x z k h = let n : ◌≡◌ {A = ℕ} 0 1 = cc in absurd (omega arith)
 
@@ -40,7 +40,7 @@ abbrev pub AllYes : List Asked → Type 0
 AllYes [] = Unit {0}
 AllYes (a ∷ more) = (a.yes ≡ true) × AllYes more
 
-one_yes : {X : Type 0} (t : Bool) (r : Result X ReadFault) (f : ReadFault) (z : X) → cond t r (Err f) ≡ Ok z → (t ≡ true) × (r ≡ Ok z)
+one_yes : {X : Type 0} (t : Bool) (r : Result X ReadFault) (f : ReadFault) (z : X) → (if t then r else Err f) ≡ Ok z → (t ≡ true) × (r ≡ Ok z)
 one_yes true r f z h = (refl, h)
 one_yes false r f z h = let n : ◌≡◌ {A = ℕ} 0 1 = cc in absurd (omega arith)
 

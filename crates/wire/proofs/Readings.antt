@@ -1,5 +1,5 @@
 -- What the fields that were read say of the whole report.
-use Rattle.std.proofs.Common.{◌≡◌, ℕ, ◌+◌, ◌%◌, ◌≤◌, Bool, eqb, leb, List, length, get_or, drop, Ok, Err, sym, ap, ◌∙◌, arith, Bor}
+use Rattle.std.proofs.Common.{◌≡◌, ℕ, ◌+◌, ◌%◌, ◌≤◌, Bool, nat_eq, nat_le, List, length, get_or, drop, Ok, Err, sym, ap, ◌∙◌, arith, Bor}
 use Rattle.std.proofs.lemmas.List.{length-take-le, length-drop}
 use Rattle.std.proofs.lemmas.Bool.{leb-true, and_parts}
 use Rattle.wire.specs.declared.fault.ReadFault.{ReadFault}
@@ -28,13 +28,13 @@ module _ (b : List ℕ) (f : Field) where
   serial_is s is h = let k : serial (get_or b 7 0) ≡ serial s = field_comes tag.Serial 4 b (shown f) h ∙ ap shown is in cc
 
   module _ (a : ℕ) (r : Bool) (is : f ≡ field.Age a r) (h : Ok (shown f) ≡ field_at tag.Age 8 b) where
-    ages : age (get_or b 11 0 % 128) (leb 128 (get_or b 11 0)) ≡ age a r
+    ages : age (get_or b 11 0 % 128) (nat_le 128 (get_or b 11 0)) ≡ age a r
     ages = field_comes tag.Age 8 b (shown f) h ∙ ap shown is
 
     pub age_is : get_or b 11 0 % 128 ≡ a
     age_is = let k = ages in cc
 
-    pub retry_is : leb 128 (get_or b 11 0) ≡ r
+    pub retry_is : nat_le 128 (get_or b 11 0) ≡ r
     retry_is = let k = ages in cc
 
   module _ (s : Bor (List ℕ)) (is : f ≡ field.Pairs s) (h : Ok (shown f) ≡ field_at tag.Pairs 12 b) where
@@ -46,7 +46,7 @@ module _ (b : List ℕ) (f : Field) where
     unfolding field_at
     pairs_fit =
         let p = passed tag.Pairs 12 b (all_yes (field_questions tag.Pairs 12 b) (field_value tag.Pairs 12 b) (shown f) (sym h)) in
-        let few = leb-true (word 13 b) 24 (and_parts (eqb (word 13 b % 3) 0) (leb (word 13 b) 24) p.size).1 in
+        let few = leb-true (word 13 b) 24 (and_parts (nat_eq (word 13 b % 3) 0) (nat_le (word 13 b) 24) p.size).1 in
         (ap length (sym pairs_are) ∙ length-take-le (word 13 b) (drop 15 b) (simp length-drop (omega (arith, p.there))), few, p.there)
 
     pub few_lines : length (lines_of s.now) ≤ 8

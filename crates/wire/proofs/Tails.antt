@@ -1,5 +1,5 @@
 -- The questions that are still to be asked after each part of a report.
-use Rattle.std.proofs.Common.{ℕ, ◌+◌, leb, List, [], ◌∷◌, ◌++◌, length, get_or}
+use Rattle.std.proofs.Common.{ℕ, ◌+◌, nat_le, List, [], ◌∷◌, ◌++◌, length, get_or}
 use Rattle.wire.specs.declared.fault.Question.TheVariants as question
 use Rattle.wire.specs.declared.field.Tag.TheVariants as tag
 use Rattle.wire.specs.Faults.{Asked, asked}
@@ -9,7 +9,7 @@ use Rattle.wire.specs.Reports.{line_questions}
 
 module _ (b : List ℕ) where
   abbrev pub after_lines : List Asked
-  after_lines = asked (leb (length b) (15 + word 13 b)) question.NothingLeftOver (15 + word 13 b) ∷ []
+  after_lines = asked (nat_le (length b) (15 + word 13 b)) question.NothingLeftOver (15 + word 13 b) ∷ []
 
   abbrev pub after_pairs : List Asked
   after_pairs = line_questions (get_or b 3 0) 0 15 (lines_of (value_of 12 b)) ++ after_lines

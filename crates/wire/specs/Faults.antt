@@ -1,5 +1,6 @@
 -- The numbers of the refusals, and what "the first no decides" means.
-use Rattle.std.specs.Prelude.{ℕ, Bool, cond, List, [], ◌∷◌, Ok, Err, Result}
+use Rattle.std.specs.Prelude.{ℕ, Bool, if◌then◌else◌, List, [], ◌∷◌, ◌++◌, Ok, Err, Result, codes}
+use Rattle.std.specs.Fmt.{decimal}
 use Rattle.wire.specs.declared.fault.Question.{Question}
 use Rattle.wire.specs.declared.fault.Question.TheVariants as question
 use Rattle.wire.specs.declared.fault.ReadFault.{ReadFault}
@@ -14,6 +15,13 @@ read_number question.PermittedValue = 15
 read_number question.PermittedNeighbour = 16
 read_number question.FigureNotZero = 17
 read_number question.NothingLeftOver = 18
+
+-- A refusal in print: its number, and for a fault its place.
+abbrev pub question_text : Question → List ℕ
+question_text q = codes "refused " ++ decimal (read_number q)
+
+abbrev pub fault_text : ReadFault → List ℕ
+fault_text e = question_text e.question ++ (codes " at " ++ decimal e.place)
 
 -- A question as it was put: whether the answer is yes, which question it is, and the byte that a no is placed at.
 pub record Asked : Type 0 where
@@ -32,4 +40,4 @@ no_at q p = record { question = q; place = p }
 -- The first no decides; where every answer is yes, the value comes.
 abbrev pub judged : {X : Type 0} → List Asked → X → Result X ReadFault
 judged [] x = Ok x
-judged (a ∷ more) x = cond a.yes (judged more x) (Err (no_at a.question a.place))
+judged (a ∷ more) x = if a.yes then judged more x else Err (no_at a.question a.place)

@@ -40,10 +40,6 @@ frame_questions t p b =
     ∷ asked (nat_le (p + 3 + word (p + 1) b) (length b)) question.ValueAllThere (p + 3)
     ∷ []
 
--- The value's bytes, or the first of these questions that is answered no.
-abbrev pub frame_of : Tag → ℕ → List ℕ → Result (List ℕ) ReadFault
-frame_of t p b = judged (frame_questions t p b) (value_of p b)
-
 -- What a value of one byte may be; pairs are asked about one by one, once the origin is known.
 abbrev pub permitted_value : Tag → ℕ → Bool
 permitted_value tag.Origin v = nat_le 1 v && nat_le v 64
@@ -65,6 +61,13 @@ field_value tag.Serial p b = serial (slice_index b (p + 3))
 field_value tag.Age p b = age (slice_index b (p + 3) % 128) (nat_le 128 (slice_index b (p + 3)))
 field_value tag.Pairs p b = pairs (value_of p b)
 
+-- The same of the bytes of a value.
+abbrev pub value_says : Tag → List ℕ → Value
+value_says tag.Origin v = origin (slice_index v 0)
+value_says tag.Serial v = serial (slice_index v 0)
+value_says tag.Age v = age (slice_index v 0 % 128) (nat_le 128 (slice_index v 0))
+value_says tag.Pairs v = pairs v
+
 -- All questions that are asked of the field at p, in their order.
 abbrev pub field_questions : Tag → ℕ → List ℕ → List Asked
 field_questions t p b = frame_questions t p b ++ asked (permitted_value t (slice_index b (p + 3))) question.PermittedValue (p + 3) ∷ []
@@ -72,11 +75,6 @@ field_questions t p b = frame_questions t p b ++ asked (permitted_value t (slice
 -- The field at p, or the first question that is answered no.
 unfoldable pub field_at : Tag → ℕ → List ℕ → Result Value ReadFault
 field_at t p b = judged (field_questions t p b) (field_value t p b)
-
--- A part of the input by the bytes that it has.
-abbrev pub shown_frame : Result (Bor (List ℕ)) ReadFault → Result (List ℕ) ReadFault
-shown_frame (Ok s) = Ok s.now
-shown_frame (Err e) = Err e
 
 -- The slice s is that very part of the bytes b that begins at p.
 abbrev pub LiesAt : Bor (List ℕ) → ℕ → Bor (List ℕ) → Type 0
@@ -100,6 +98,13 @@ tag_of (field.Pairs s) = tag.Pairs
 abbrev pub shown_field : Result Field ReadFault → Result Value ReadFault
 shown_field (Ok f) = Ok (shown f)
 shown_field (Err e) = Err e
+
+-- The pairs of a field are that very slice s; the other fields hold none.
+abbrev pub PairsAre : Bor (List ℕ) → Field → Type 0
+PairsAre s (field.Origin v) = Unit {0}
+PairsAre s (field.Serial v) = Unit {0}
+PairsAre s (field.Age v r) = Unit {0}
+PairsAre s (field.Pairs t) = t ≡ s
 
 -- The pairs of a field are that very part of the bytes b that begins at p; the other fields hold no part.
 abbrev pub PairsLieAt : Bor (List ℕ) → ℕ → Field → Type 0

@@ -1,12 +1,12 @@
 -- The one form of a report as bytes.
-use Rattle.std.specs.Prelude.{ℕ, ◌+◌, ◌/◌, ◌%◌, Bool, cond, List, [], ◌∷◌, ◌++◌, length}
+use Rattle.std.specs.Prelude.{ℕ, ◌+◌, ◌/◌, ◌%◌, Bool, if◌then◌else◌, List, [], ◌∷◌, ◌++◌, length}
 use Rattle.wire.specs.declared.report.Header.{Header}
 use Rattle.wire.specs.Lines.{pair_bytes}
 use Rattle.wire.specs.Reports.{Content}
 
 -- The age's byte: 128 more where the retry flag is set.
 abbrev pub age_byte : ℕ → Bool → ℕ
-age_byte age retry = cond retry (age % 128 + 128) (age % 128)
+age_byte age retry = if retry then age % 128 + 128 else age % 128
 
 -- The bytes before the pairs: three fields of one byte, then tag and length of the fourth.
 abbrev pub head : Header → ℕ → List ℕ

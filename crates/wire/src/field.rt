@@ -1,16 +1,16 @@
 // A field of a report: one byte of tag, two of length (the more significant first), and as many bytes of value.
-ghost use Rattle.std.specs.Prelude.{◌≡◌, ◌+◌, ◌%◌, ◌≤◌, true, length, IfOk, nat_le};
-ghost use Rattle.wire.specs.Fields.{tag_number, permitted_length, permitted_value, frame_of, shown_frame, LiesAt, field_at, shown_field, tag_of, PairsLieAt};
+ghost use Rattle.std.specs.Prelude.{◌≡◌, ◌+◌, ◌%◌, true, false, length, slice_index, IfOk, IfSome, MatchOption, nat_le};
+ghost use Rattle.wire.specs.Fields.{tag_number, permitted_length, permitted_value, value_says, shown, field_at, shown_field, tag_of, PairsAre, PairsLieAt};
 
 use crate::fault::{Question, ReadFault};
 
-// Which field it is; a report has them in this order.
-#[derive(Clone, Copy)]
+// Which field it is, by the byte that it begins with; a report has them in this order.
+#[derive(Clone, Copy, Debug, PartialEq, Eq)]
 pub enum Tag {
-    Origin,
-    Serial,
-    Age,
-    Pairs,
+    Origin = 1,
+    Serial = 2,
+    Age = 3,
+    Pairs = 4,
 }
 
 impl Tag {
@@ -18,12 +18,7 @@ impl Tag {
     fn number(self) -> u8
         ensures { result ≡ tag_number self }
     {
-        match self {
-            Tag::Origin => 1,
-            Tag::Serial => 2,
-            Tag::Age => 3,
-            Tag::Pairs => 4,
-        }
+        self as u8
     }
 
     // Whether the value may have so many bytes: one, or three for each of up to eight pairs.
@@ -36,22 +31,27 @@ impl Tag {
         }
     }
 
-    // Whether a value of one byte may be this byte: an origin from 1 to 64, a serial up to 63, an age from 1 to 7, with or
-    // without the retry flag's 128.
-    fn permits_value(self, byte: u8) -> bool
-        ensures { result ≡ permitted_value self byte }
+    // What a value of a permitted length says, if it may be that: an origin from 1 to 64, a serial up to 63, an age from 1
+    // to 7, with or without the retry flag's 128. Pairs are looked at where the origin is known, in `Report::read`.
+    fn field<'a>(self, value: &'a [u8]) -> Option<Field<'a>>
+        requires { permitted_length self (length value.now) ≡ true }
+        ensures says { MatchOption result (permitted_value self (slice_index value.now 0) ≡ false)
+            (λ f. (permitted_value self (slice_index value.now 0) ≡ true) × (shown f ≡ value_says self value.now)) }
+        ensures kind { IfSome result (λ f. tag_of f ≡ self) }
+        ensures part { IfSome result (PairsAre value.entry) }
     {
-        match self {
-            Tag::Origin => 1 <= byte && byte <= 64,
-            Tag::Serial => byte <= 63,
-            Tag::Age => 1 <= byte % 128 && byte % 128 <= 7,
-            Tag::Pairs => true,
+        match (self, value) {
+            (Tag::Origin, [origin @ 1..=64]) => Some(Field::Origin(*origin)),
+            (Tag::Serial, [serial @ 0..=63]) => Some(Field::Serial(*serial)),
+            (Tag::Age, [byte]) if matches!(*byte % 128, 1..=7) => Some(age_field(*byte)),
+            (Tag::Pairs, pairs) => Some(Field::Pairs(pairs)),
+            _ => None,
         }
     }
 }
 
 // A field that was read. The pairs are that very part of the caller's bytes.
-#[derive(Clone, Copy)]
+#[derive(Clone, Copy, Debug, PartialEq, Eq)]
 pub enum Field<'a> {
     Origin(u8),
     Serial(u8),
@@ -59,31 +59,7 @@ pub enum Field<'a> {
     Pairs(&'a [u8]),
 }
 
-// The bytes of the value of the field at `place`, which has to have the tag.
-fn read_frame<'a>(bytes: &'a [u8], place: usize, tag: Tag) -> Result<&'a [u8], ReadFault>
-    ensures frame { shown_frame result ≡ frame_of tag place bytes.now }
-    ensures size { IfOk result (λ s. permitted_length tag (length s.now) ≡ true) }
-    ensures within { IfOk result (λ s. place + 3 + length s.now ≤ length bytes.now) }
-    ensures part { IfOk result (LiesAt bytes.entry (place + 3)) }
-{
-    if bytes.len() < place || bytes.len() - place < 3 {
-        return Err(Question::ThreeBytesLeft.at(place));
-    }
-    if bytes[place] != tag.number() {
-        return Err(Question::ExpectedTag.at(place));
-    }
-    let length = bytes[place + 1] as usize * 256 + bytes[place + 2] as usize;
-    if !tag.permits(length) {
-        return Err(Question::PermittedLength.at(place + 1));
-    }
-    let start = place + 3;
-    if bytes.len() - start < length {
-        return Err(Question::ValueAllThere.at(start));
-    }
-    Ok(&bytes[start..start + length])
-}
-
-// The age's byte taken apart: the top bit is the retry flag.
+// The age's byte taken apart: the top bit is the retry flag. No `From<u8>`, since of all bytes only an age's says this.
 fn age_field<'a>(byte: u8) -> Field<'a>
     ensures { result ≡ Field.Age (byte % 128) (nat_le 128 byte) }
 {
@@ -93,24 +69,28 @@ fn age_field<'a>(byte: u8) -> Field<'a>
     }
 }
 
-// The field at `place`, which has to have the tag. The pairs are looked at where the origin is known, in `Report::read`.
+// The field at `place`, which has to have the tag.
+#[tactic(auto, unfolding(crate::specs::Fields::field_at))]
 pub fn read_field<'a>(bytes: &'a [u8], place: usize, tag: Tag) -> Result<Field<'a>, ReadFault>
     ensures value { shown_field result ≡ field_at tag place bytes.now }
     ensures kind { IfOk result (λ f. tag_of f ≡ tag) }
     ensures part { IfOk result (PairsLieAt bytes.entry (place + 3)) }
 {
-    let value = read_frame(bytes, place, tag)?;
-    if let Tag::Pairs = tag {
-        return Ok(Field::Pairs(value));
+    let Some([first, high, low, rest @ ..]) = bytes.get(place..) else {
+        return Err(Question::ThreeBytesLeft.at(place));
+    };
+    if *first != tag.number() {
+        return Err(Question::ExpectedTag.at(place));
     }
-    let byte = value[0];
-    if !tag.permits_value(byte) {
-        return Err(Question::PermittedValue.at(place + 3));
+    let length = usize::from(u16::from_be_bytes([*high, *low]));
+    if !tag.permits(length) {
+        return Err(Question::PermittedLength.at(place + 1));
     }
-    match tag {
-        Tag::Origin => Ok(Field::Origin(byte)),
-        Tag::Serial => Ok(Field::Serial(byte)),
-        Tag::Age => Ok(age_field(byte)),
-        Tag::Pairs => Ok(Field::Pairs(value)),
+    let start = place + 3;
+    if rest.len() < length {
+        return Err(Question::ValueAllThere.at(start));
     }
+    // An index, since what `get` answers is not said to be that very part of the bytes.
+    let value = &bytes[start..start + length];
+    tag.field(value).ok_or(Question::PermittedValue.at(start))
 }

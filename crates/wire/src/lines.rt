@@ -1,30 +1,40 @@
 // A line as a report has it, and the walk over the pairs of bytes that hold the lines.
 ghost use Rattle.std.specs.Prelude.{◌≡◌, [], ◌∷◌, length, MatchOption};
-ghost use Rattle.wire.specs.Lines.{lines_of, line_bytes, figure_of};
+ghost use Rattle.wire.specs.Lines.{lines_of, line_bytes};
 ghost use Rattle.std.specs.Iterator.{at_most};
 
 // A line to a neighbour, with its delay in units of 0.1 ms.
-#[derive(Clone, Copy)]
+#[derive(Clone, Copy, Debug, PartialEq, Eq, Default)]
 pub struct Line {
     pub neighbour: u8,
     pub figure: u16,
 }
 
-impl Line {
-    // The line as its three bytes.
-    pub fn bytes(self) -> [u8; 3]
-        ensures { result ≡ line_bytes self }
-    {
-        [
-            self.neighbour,
-            (self.figure / 256) as u8,
-            (self.figure % 256) as u8,
-        ]
+// The line as its three bytes.
+impl From<Line> for [u8; 3] {
+    ghost from_gives = { λ line bytes. bytes ≡ line_bytes line };
+
+    fn from(line: Line) -> [u8; 3] {
+        let [high, low] = line.figure.to_be_bytes();
+        [line.neighbour, high, low]
+    }
+}
+
+// The line that three bytes hold.
+impl From<[u8; 3]> for Line {
+    ghost from_gives = { λ bytes line. line ∷ [] ≡ lines_of bytes };
+
+    fn from(bytes: [u8; 3]) -> Line {
+        let [neighbour, high, low] = bytes;
+        Line {
+            neighbour,
+            figure: u16::from_be_bytes([high, low]),
+        }
     }
 }
 
 // What is left of the pairs of a report; an iterator over their lines.
-#[derive(Clone, Copy)]
+#[derive(Clone, Copy, Debug, PartialEq, Eq)]
 pub struct Lines<'a> {
     rest: &'a [u8],
 }
@@ -38,13 +48,6 @@ impl<'a> Lines<'a> {
     }
 }
 
-// The figure in two bytes, most significant first.
-fn figure(high: u8, low: u8) -> u16
-    ensures { result ≡ figure_of high low }
-{
-    high as u16 * 256 + low as u16
-}
-
 impl<'a> Iterator for Lines<'a> {
     type Item = Line;
 
@@ -53,13 +56,8 @@ impl<'a> Iterator for Lines<'a> {
     ghost remaining = { λ s. at_most (length s.rest.now) };
 
     fn next(&mut self) -> Option<Line> {
-        let [neighbour, high, low, rest @ ..] = self.rest else {
-            return None;
-        };
+        let (line, rest) = self.rest.split_first_chunk::<3>()?;
         self.rest = rest;
-        Some(Line {
-            neighbour: *neighbour,
-            figure: figure(*high, *low),
-        })
+        Some(Line::from(*line))
     }
 }

@@ -10,7 +10,7 @@ use crate::field::{Field, Tag, read_field};
 use crate::lines::Lines;
 
 // What stands before the lines of a report.
-#[derive(Clone, Copy)]
+#[derive(Clone, Copy, Debug, PartialEq, Eq)]
 pub struct Header {
     pub origin: u8,
     pub serial: u8,
@@ -19,7 +19,7 @@ pub struct Header {
 }
 
 // A report that was read: the pairs of neighbour and figure are that very part of the caller's bytes.
-#[derive(Clone, Copy)]
+#[derive(Clone, Copy, Debug, PartialEq, Eq)]
 pub struct Report<'a> {
     pub header: Header,
     pub pairs: &'a [u8],
@@ -31,8 +31,8 @@ fn check_lines(origin: u8, lines: Lines) -> Result<(), ReadFault>
     ensures { result ≡ judge_lines origin 0 15 (lines_of lines.entry.rest.now) }
 {
     let mut previous = 0;
-    let mut place = 15;
-    for line in lines {
+    for (i, line) in lines.enumerate() {
+        let place = 15 + 3 * i;
         if line.neighbour <= previous || line.neighbour > 64 || line.neighbour == origin {
             return Err(Question::PermittedNeighbour.at(place));
         }
@@ -40,7 +40,6 @@ fn check_lines(origin: u8, lines: Lines) -> Result<(), ReadFault>
             return Err(Question::FigureNotZero.at(place + 1));
         }
         previous = line.neighbour;
-        place += 3;
     }
     Ok(())
 }
@@ -53,17 +52,17 @@ impl<'a> Report<'a> {
         ensures part { IfOk result (λ q. LiesAt bytes.entry 15 q.pairs) }
         ensures whole { IfOk result (λ q. q.pairs.now ≡ pair_bytes (content q).lines) }
     {
-        let Field::Origin(origin) = read_field(bytes, 0, Tag::Origin)? else {
-            unreachable()
-        };
-        let Field::Serial(serial) = read_field(bytes, 4, Tag::Serial)? else {
-            unreachable()
-        };
-        let Field::Age { age, retry } = read_field(bytes, 8, Tag::Age)? else {
-            unreachable()
-        };
-        let Field::Pairs(pairs) = read_field(bytes, 12, Tag::Pairs)? else {
-            unreachable()
+        let origin = read_field(bytes, 0, Tag::Origin)?;
+        let serial = read_field(bytes, 4, Tag::Serial)?;
+        let age = read_field(bytes, 8, Tag::Age)?;
+        let pairs = read_field(bytes, 12, Tag::Pairs)?;
+        let (
+            Field::Origin(origin),
+            Field::Serial(serial),
+            Field::Age { age, retry },
+            Field::Pairs(pairs),
+        ) = (origin, serial, age, pairs) else {
+            unreachable!()
         };
         check_lines(origin, Lines::of(pairs))?;
         let end = 15 + pairs.len();

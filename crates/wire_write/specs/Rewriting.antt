@@ -4,14 +4,19 @@ use Rattle.wire.specs.declared.fault.ReadFault.{ReadFault}
 use Rattle.wire_write.specs.declared.write.WriteFault.{WriteFault}
 use Rattle.wire_write.specs.declared.rewrite.RewriteFault.{RewriteFault}
 use Rattle.wire_write.specs.declared.rewrite.RewriteFault.TheVariants.{Read, Write}
-use Rattle.wire.specs.Faults.{read_number}
-use Rattle.wire_write.specs.Putting.{write_number, put, put_answer}
+use Rattle.wire.specs.Faults.{read_number, fault_text}
+use Rattle.wire_write.specs.Putting.{write_number, write_text, put, put_answer}
 use Rattle.wire.specs.Reports.{Content, read_report}
 
 -- The number of either refusal.
 abbrev pub rewrite_number : RewriteFault → ℕ
 rewrite_number (Read e) = read_number e.question
 rewrite_number (Write e) = write_number e
+
+-- The refusal in print: that of the reading, with its place, or that of the writing.
+abbrev pub rewrite_text : RewriteFault → List ℕ
+rewrite_text (Read e) = fault_text e
+rewrite_text (Write e) = write_text e
 
 -- The answer of a writing, as that of a rewriting.
 abbrev pub after_read : Result ℕ WriteFault → Result ℕ RewriteFault

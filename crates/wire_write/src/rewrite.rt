@@ -1,21 +1,23 @@
 // Reading a report and writing it again, which gives the same bytes.
-ghost use Rattle.std.specs.Prelude.{◌≡◌};
-ghost use Rattle.wire_write.specs.Rewriting.{rewrite_answer, rewrite_buffer, rewrite_number};
+ghost use Rattle.std.specs.Prelude.{◌≡◌, Some};
+ghost use Rattle.wire_write.specs.Rewriting.{rewrite_answer, rewrite_buffer, rewrite_number, rewrite_text};
 ghost use Rattle.wire_write.specs.declared.rewrite.RewriteFault.TheVariants.{Read, Write};
 
 use crate::write::{WriteFault, write_report};
+use std::error::Error;
+use std::fmt;
 use wire::fault::ReadFault;
 use wire::report::Report;
 
 // What refuses a rewriting: the reading or the writing.
-#[derive(Clone, Copy)]
+#[derive(Clone, Copy, Debug, PartialEq, Eq)]
 pub enum RewriteFault {
     Read(ReadFault),
     Write(WriteFault),
 }
 
 impl RewriteFault {
-    // The number by which the rewriting is refused.
+    // The number by which the rewriting is refused. A match, since variants that hold a value have no number to read by `as`.
     pub fn number(self) -> u8
         ensures { result ≡ rewrite_number self }
     {
@@ -26,6 +28,21 @@ impl RewriteFault {
     }
 }
 
+// A rewriting that was refused prints as what refused it: only a reading has a place.
+impl fmt::Display for RewriteFault {
+    ghost output = { λ e. Some (rewrite_text e) };
+
+    fn fmt<W: fmt::Write>(&self, f: &mut fmt::Formatter<W>) -> fmt::Result {
+        match self {
+            RewriteFault::Read(fault) => fault.fmt(f),
+            RewriteFault::Write(fault) => fault.fmt(f),
+        }
+    }
+}
+
+impl Error for RewriteFault {}
+
+// By hand, as the next: a derived `From` promises nothing of what it makes.
 impl From<ReadFault> for RewriteFault {
     ghost from_gives = { λ e r. r ≡ Read e };
 
@@ -48,6 +65,5 @@ pub fn rewrite(bytes: &[u8], out: &mut [u8]) -> Result<usize, RewriteFault>
     ensures buffer { out.new ≡ rewrite_buffer bytes.now out.old }
 {
     let report = Report::read(bytes)?;
-    let length = write_report(&report, out)?;
-    Ok(length)
+    Ok(write_report(&report, out)?)
 }

@@ -1,23 +1,26 @@
 // Writing a report into the caller's buffer: one that was read, or one from its parts.
-ghost use Rattle.std.specs.Prelude.{◌≡◌, length, take, IfOk, Ok};
+ghost use Rattle.std.specs.Prelude.{◌≡◌, length, take, IfOk, Ok, Some};
 ghost use Rattle.wire.specs.Reports.{Allowed, read_report};
 ghost use Rattle.wire.specs.Form.{age_byte, head, framed, encode};
-ghost use Rattle.wire_write.specs.Putting.{write_number, drafted, put_answer, put};
+ghost use Rattle.wire_write.specs.Putting.{write_number, write_text, drafted, put_answer, put};
 
+use std::error::Error;
+use std::fmt;
+use wire::field::Tag;
 use wire::lines::Line;
 use wire::report::{Header, Report};
 
 // A report that is to be written, with its lines as they are kept.
-#[derive(Clone, Copy)]
+#[derive(Clone, Copy, Debug, PartialEq, Eq)]
 pub struct Draft<'a> {
     pub header: Header,
     pub lines: &'a [Line],
 }
 
-// What refuses a writing.
-#[derive(Clone, Copy)]
+// What refuses a writing, by the number of the refusal.
+#[derive(Clone, Copy, Debug, PartialEq, Eq)]
 pub enum WriteFault {
-    BufferTooShort,
+    BufferTooShort = 27,
 }
 
 impl WriteFault {
@@ -25,16 +28,24 @@ impl WriteFault {
     pub fn number(self) -> u8
         ensures { result ≡ write_number self }
     {
-        match self {
-            WriteFault::BufferTooShort => 27,
-        }
+        self as u8
     }
 }
+
+impl fmt::Display for WriteFault {
+    ghost output = { λ e. Some (write_text e) };
+
+    fn fmt<W: fmt::Write>(&self, f: &mut fmt::Formatter<W>) -> fmt::Result {
+        write!(f, "refused {}", self.number())
+    }
+}
+
+impl Error for WriteFault {}
 
 // How many bytes stand before the pairs.
 const HEAD: usize = 15;
 
-// The age's byte, 128 more where the retry flag is set.
+// The age's byte, 128 more where the retry flag is set. No `From<Header>`, since a header is more than its age and flag.
 fn age_byte(header: Header) -> u8
     ensures { result ≡ age_byte header.age header.retry }
 {
@@ -46,42 +57,46 @@ fn age_byte(header: Header) -> u8
 }
 
 // The bytes that stand before pairs of `size` bytes.
-fn head_bytes(header: Header, size: usize) -> [u8; 15]
+fn head_bytes(header: Header, size: usize) -> [u8; HEAD]
     ensures { result ≡ head header size }
 {
     let age = age_byte(header);
-    let [high, low] = [(size / 256 % 256) as u8, (size % 256) as u8];
+    let [.., high, low] = size.to_be_bytes();
     [
-        1,
+        Tag::Origin as u8,
         0,
         1,
         header.origin,
-        2,
+        Tag::Serial as u8,
         0,
         1,
         header.serial,
-        3,
+        Tag::Age as u8,
         0,
         1,
         age,
-        4,
+        Tag::Pairs as u8,
         high,
         low,
     ]
 }
 
-// Puts a report that was read at the start of the buffer, alters nothing behind it, and answers its length.
+// Puts a report that was read at the start of the buffer, alters nothing behind it, and answers its length. A length and no
+// slice, since the promise is of the whole buffer, which the caller keeps.
 pub fn write_report(report: &Report, out: &mut [u8]) -> Result<usize, WriteFault>
     ensures answer { result ≡ put_answer (framed report.now.header report.now.pairs.now) out.old }
     ensures buffer { out.new ≡ put (framed report.now.header report.now.pairs.now) out.old }
 {
     let pairs = report.pairs;
     let size = pairs.len();
-    if out.len() < HEAD || out.len() - HEAD < size {
+    let Some((head, rest)) = out.split_first_chunk_mut::<HEAD>() else {
+        return Err(WriteFault::BufferTooShort);
+    };
+    if rest.len() < size {
         return Err(WriteFault::BufferTooShort);
     }
-    out[0..HEAD].copy_from_slice(&head_bytes(report.header, size));
-    out[HEAD..HEAD + size].copy_from_slice(pairs);
+    *head = head_bytes(report.header, size);
+    rest[..size].copy_from_slice(pairs);
     Ok(HEAD + size)
 }
 
@@ -93,14 +108,15 @@ pub fn write_draft(draft: &Draft, out: &mut [u8]) -> Result<usize, WriteFault>
     ensures reads_back { Allowed (drafted draft.now) → IfOk result (λ n. read_report (take n out.new) ≡ Ok (drafted draft.now)) }
 {
     let lines = draft.lines;
-    if out.len() < HEAD || (out.len() - HEAD) / 3 < lines.len() {
+    let Some((head, rest)) = out.split_first_chunk_mut::<HEAD>() else {
+        return Err(WriteFault::BufferTooShort);
+    };
+    if rest.len() / 3 < lines.len() {
         return Err(WriteFault::BufferTooShort);
     }
-    out[0..HEAD].copy_from_slice(&head_bytes(draft.header, 3 * lines.len()));
-    let mut end = HEAD;
-    for line in lines {
-        out[end..end + 3].copy_from_slice(&line.bytes());
-        end += 3;
+    *head = head_bytes(draft.header, 3 * lines.len());
+    for (i, line) in lines.iter().enumerate() {
+        rest[3 * i..3 * i + 3].copy_from_slice(&<[u8; 3]>::from(*line));
     }
-    Ok(end)
+    Ok(HEAD + 3 * lines.len())
 }

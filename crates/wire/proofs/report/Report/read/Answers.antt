@@ -1,4 +1,4 @@
-use Rattle.std.proofs.Common.{◌≡◌, ◌+◌, ◌≤◌, true, false, cond, leb, length, get_or, Ok, Err, sym, ap, ◌∙◌, arith}
+use Rattle.std.proofs.Common.{◌≡◌, ◌+◌, ◌≤◌, true, false, if◌then◌else◌, nat_le, length, get_or, Ok, Err, sym, ap, ◌∙◌, arith}
 use Rattle.wire.specs.declared.fault.Question.TheVariants as question
 use Rattle.std.proofs.lemmas.Result.{err_from_is_err_and}
 use Rattle.std.proofs.lemmas.Bool.{le-leb, lt-leb}
@@ -44,21 +44,21 @@ called : {X : Type 0} (r x y z : X) → r ≡ x → r ≡ y → y ≡ z → x �
 called r x y z a b c = sym a ∙ b ∙ c
 
 -- the pairs, as far as they are read
-fits : (c : After-of) → (length c.in-Pairs.pairs.now ≡ word 13 c.args.bytes.now) × (word 13 c.args.bytes.now ≤ 24) × (15 + word 13 c.args.bytes.now ≤ length c.args.bytes.now)
-fits c = pairs_fit c.args.bytes.now _ c.in-Pairs.pairs c.in-Pairs.is c.in_ok-pairs.ensures.value
+fits : (c : After-of) → (length c.in-Origin-Serial-Age-Pairs.pairs.now ≡ word 13 c.args.bytes.now) × (word 13 c.args.bytes.now ≤ 24) × (15 + word 13 c.args.bytes.now ≤ length c.args.bytes.now)
+fits c = pairs_fit c.args.bytes.now _ c.in-Origin-Serial-Age-Pairs.pairs c.in-Origin-Serial-Age-Pairs.is-3 c.in_ok-pairs.ensures.value
 
 -- the lines that are checked are those that the bytes say
 same_lines : (c : After-of)
-    → judge_lines c.in-Origin.origin 0 15 (lines_of c.of.result.rest.now)
+    → judge_lines c.in-Origin-Serial-Age-Pairs.origin 0 15 (lines_of c.of.result.rest.now)
     ≡ judge_lines (get_or c.args.bytes.now 3 0) 0 15 (lines_of (value_of 12 c.args.bytes.now))
 same_lines c =
-    let o = origin_is c.args.bytes.now _ c.in-Origin.origin c.in-Origin.is c.in_ok-origin.ensures.value in
-    let p = pairs_are c.args.bytes.now _ c.in-Pairs.pairs c.in-Pairs.is c.in_ok-pairs.ensures.value in
+    let o = origin_is c.args.bytes.now _ c.in-Origin-Serial-Age-Pairs.origin c.in-Origin-Serial-Age-Pairs.is-0 c.in_ok-origin.ensures.value in
+    let p = pairs_are c.args.bytes.now _ c.in-Origin-Serial-Age-Pairs.pairs c.in-Origin-Serial-Age-Pairs.is-3 c.in_ok-pairs.ensures.value in
     λ i. judge_lines (sym o i) 0 15 (lines_of ((ap (λ x. x.now) c.of.ensures ∙ sym p) i))
 
 pub check_lines-requires : goal.check_lines-requires
 check_lines-requires c =
-    rw c.of.ensures (few_lines c.args.bytes.now _ c.in-Pairs.pairs c.in-Pairs.is c.in_ok-pairs.ensures.value)
+    rw c.of.ensures (few_lines c.args.bytes.now _ c.in-Origin-Serial-Age-Pairs.pairs c.in-Origin-Serial-Age-Pairs.is-3 c.in_ok-pairs.ensures.value)
 
 pub returns-in_err-check_lines : goal.returns-in_err-check_lines
 returns-in_err-check_lines c =
@@ -71,11 +71,11 @@ returns-in_err-check_lines c =
 
 -- what is left to ask at the end
 at_end : (c : In_ok-check_lines)
-    → judge_lines c.in-Origin.origin 0 15 (lines_of c.of.result.rest.now)
+    → judge_lines c.in-Origin-Serial-Age-Pairs.origin 0 15 (lines_of c.of.result.rest.now)
     ≡ judge_lines (get_or c.args.bytes.now 3 0) 0 15 (lines_of (value_of 12 c.args.bytes.now))
     → read_report c.args.bytes.now
-    ≡ cond (leb (length c.args.bytes.now) (15 + word 13 c.args.bytes.now)) (Ok (said c.args.bytes.now))
-    (Err (record { question = question.NothingLeftOver; place = 15 + word 13 c.args.bytes.now }))
+    ≡ (if nat_le (length c.args.bytes.now) (15 + word 13 c.args.bytes.now) then Ok (said c.args.bytes.now)
+    else Err (record { question = question.NothingLeftOver; place = 15 + word 13 c.args.bytes.now }))
 at_end c same =
     ends c.args.bytes.now _ c.in_ok-origin.ensures.value _ c.in_ok-serial.ensures.value _
     c.in_ok-age.ensures.value _ c.in_ok-pairs.ensures.value
@@ -85,7 +85,7 @@ pub returns-then-end-bytes : goal.returns-then-end-bytes
 returns-then-end-bytes c =
     let w = goal.at.returns-then-end-bytes c in
     let f = fits w.After-of in
-    let no : leb (length c.args.bytes.now) (15 + word 13 c.args.bytes.now) ≡ false = lt-leb (length c.args.bytes.now) (15 + word 13 c.args.bytes.now) (omega (arith, f.0)) in
+    let no : nat_le (length c.args.bytes.now) (15 + word 13 c.args.bytes.now) ≡ false = lt-leb (length c.args.bytes.now) (15 + word 13 c.args.bytes.now) (omega (arith, f.0)) in
     let e = at_end w.In_ok-check_lines (same_lines w.After-of) in
     let h : Err c.at.result ≡ read_report c.args.bytes.now = ap Err c.at.ensures ∙ rw f.0 (sym (rw no at e)) in
     record { value = h; exactly = no_form c.args.bytes.now _ h; part = tt; whole = tt }
@@ -95,18 +95,18 @@ returns c =
     let w = goal.at.returns c in
     let b = c.args.bytes.now in
     let f = fits w.After-of in
-    let all : leb (length b) (15 + word 13 b) ≡ true = le-leb (length b) (15 + word 13 b) (omega (arith, f.0)) in
+    let all : nat_le (length b) (15 + word 13 b) ≡ true = le-leb (length b) (15 + word 13 b) (omega (arith, f.0)) in
     let e = at_end w.In_ok-check_lines (same_lines w.After-of) in
-    let o = origin_is b _ _ c.in-Origin.is c.in_ok-origin.ensures.value in
-    let s = serial_is b _ _ c.in-Serial.is c.in_ok-serial.ensures.value in
-    let a = age_is b _ _ _ c.in-Age.is c.in_ok-age.ensures.value in
-    let r = retry_is b _ _ _ c.in-Age.is c.in_ok-age.ensures.value in
-    let p = pairs_are b _ _ c.in-Pairs.is c.in_ok-pairs.ensures.value in
-    let value : read_report b ≡ Ok (content (record { header = record { origin = c.in-Origin.origin; serial = c.in-Serial.serial; age = c.in-Age.age; retry = c.in-Age.retry }; pairs = c.in-Pairs.pairs }))
+    let o = origin_is b _ _ c.in-Origin-Serial-Age-Pairs.is-0 c.in_ok-origin.ensures.value in
+    let s = serial_is b _ _ c.in-Origin-Serial-Age-Pairs.is-1 c.in_ok-serial.ensures.value in
+    let a = age_is b _ _ _ c.in-Origin-Serial-Age-Pairs.is-2 c.in_ok-age.ensures.value in
+    let r = retry_is b _ _ _ c.in-Origin-Serial-Age-Pairs.is-2 c.in_ok-age.ensures.value in
+    let p = pairs_are b _ _ c.in-Origin-Serial-Age-Pairs.is-3 c.in_ok-pairs.ensures.value in
+    let value : read_report b ≡ Ok (content (record { header = record { origin = c.in-Origin-Serial-Age-Pairs.origin; serial = c.in-Origin-Serial-Age-Pairs.serial; age = c.in-Origin-Serial-Age-Pairs.age; retry = c.in-Origin-Serial-Age-Pairs.retry }; pairs = c.in-Origin-Serial-Age-Pairs.pairs }))
     = rw (← o, ← s, ← a, ← r, ← p) (rw all at e) in
     record {
       value = sym value;
       exactly = undone b _ (λ k. (c.type_inv.bytes k).fits) value;
-      part = simp c.in-Pairs.is at c.in_ok-pairs.ensures.part;
+      part = simp c.in-Origin-Serial-Age-Pairs.is-3 at c.in_ok-pairs.ensures.part;
       whole = rw p at (pairs_whole b _ (λ k. (c.type_inv.bytes k).fits) value);
     }
