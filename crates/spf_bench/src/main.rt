@@ -17,17 +17,14 @@ const ROUNDS: u8 = 4;
 
 // One number from a sum and all routes of a tree.
 fn sum_over(start: u64, tree: &Tree) -> u64 {
-    let mut sum = start;
-    for route in tree {
-        sum = sum
-            .wrapping_mul(31)
+    tree.iter().fold(start, |sum, route| {
+        sum.wrapping_mul(31)
             .wrapping_add(route.distance.unwrap_or(0))
             .wrapping_mul(31)
             .wrapping_add(u64::from(route.parent))
             .wrapping_mul(31)
-            .wrapping_add(u64::from(route.hop));
-    }
-    sum
+            .wrapping_add(u64::from(route.hop))
+    })
 }
 
 fn main(rt: HostRuntime) -> anyhow::Result<()> {
