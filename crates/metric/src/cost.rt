@@ -13,6 +13,8 @@ pub trait Metric {
     fn laws(&self)
         ensures { Laws (means self.now) };
 
+    // No body is provided below: not every metric compares costs as numbers, and an impl for all that do would overlap `Floor`'s.
+
     // The cost of the path that has no line.
     fn empty(&self) -> u64
         ensures { result ≡ (means self.now).empty };

@@ -5,7 +5,7 @@ ghost use Rattle.metric.specs.Metrics.{delay, Sums};
 use super::cost::Metric;
 
 // Kind 1: a path costs the sum of its figures. A sum that would pass the 64-bit range is its largest number.
-#[derive(Clone, Copy)]
+#[derive(Clone, Copy, Debug, PartialEq, Eq)]
 pub struct Delay;
 
 impl Metric for Delay {

@@ -9,7 +9,7 @@ const ONE_LINE: u64 = 65_536;
 
 // Kind 2: fewest lines, then the smallest worst figure. The cost is lines x 65,536 + worst figure, and every number is
 // read so. Only from 281,474,976,710,655 lines on would one line more pass the 64-bit range: that cost is its largest number.
-#[derive(Clone, Copy)]
+#[derive(Clone, Copy, Debug, PartialEq, Eq)]
 pub struct FewestLines;
 
 impl Metric for FewestLines {

@@ -4,7 +4,7 @@ ghost use Rattle.metric_example.specs.Floors.{floored};
 use metric::Metric;
 
 // Another metric, to which a figure below `least` counts as `least`, so that fast lines count alike.
-#[derive(Clone, Copy)]
+#[derive(Clone, Copy, Debug, PartialEq, Eq)]
 pub struct Floor<M> {
     pub metric: M,
     pub least: u16,

@@ -7,7 +7,7 @@ use metric::Metric;
 // A path costs the sum of its figures and this price for each of its lines, say for the time that a box takes to switch
 // a packet. A sum that would pass the 64-bit range is its largest number. With a price of 32 bits no path of up to 64
 // lines comes near it; with one of 64 bits some would, and the second law would fail there.
-#[derive(Clone, Copy)]
+#[derive(Clone, Copy, Debug, PartialEq, Eq)]
 pub struct PricedDelay {
     pub price: u32,
 }
