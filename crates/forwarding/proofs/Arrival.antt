@@ -1,17 +1,18 @@
 -- The course where all nodes show their routes of one map under one metric. Assumes nothing.
-use Rattle.std.proofs.Common.{◌≡◌, ℕ, zero, suc, ◌≤◌, min, List, [], ◌∷◌, length, None, sym, refl, ap, ◌∙◌, subst, arith}
+use Rattle.std.proofs.Common.{◌≡◌, ℕ, zero, suc, ◌-◌, ◌≤◌, min, List, [], ◌∷◌, length, take, None, sym, refl, ap, ◌∙◌, subst, arith}
 use Rattle.metric.specs.Meaning.{Meaning}
 use Rattle.spf.specs.Maps.{Map, Sound}
 use Rattle.spf.specs.Routes.{Distance, Parent, NextHop, nowhere, there, onwards}
 use Rattle.spf.specs.Forwarding.{Forwards, Arrives}
 use Rattle.spf.specs.declared.route.Route.{Route}
 use Rattle.spf_laws.proofs.Forward.{forwarding}
+use Rattle.forwarding.specs.declared.walk.End.{End}
 use Rattle.forwarding.specs.declared.walk.End.TheVariants.{Arrived}
-use Rattle.forwarding.specs.Courses.{Course, hops_of, walk_from, walk}
+use Rattle.forwarding.specs.Courses.{Course, hops_of, ends_at, walk_from, walk}
 use Rattle.forwarding.specs.Arrival.{Arriving, Absent}
 use Rattle.forwarding.specs.Going.{Going}
 use Rattle.forwarding.proofs.Going.{going}
-use Rattle.forwarding.proofs.Courses.{before, arrived, lost, onwards as on}
+use Rattle.forwarding.proofs.Courses.{Along, before, course, ended, arrived, lost, onwards as on}
 
 -- the hops of the theorem are the hops of the walk
 follows : (shows : ℕ → ℕ → Route) (m : Map) → Sound m → (d : ℕ) (us : List ℕ) (n a : ℕ) → Forwards shows m d a us → length us ≤ n
@@ -32,6 +33,13 @@ no_hop k m r (nowhere p) far = refl
 no_hop k m r (there {v} p low) far = absurd (unled k m r v far r p low)
 no_hop k m r (onwards {v} p x low other further) far = absurd (unled k m r v far p x low)
 
+-- All that is promised of a walk.
+pub record Walked (shows : ℕ → ℕ → Route) (count a d : ℕ) (w : Course) : Type 0 where
+  pub value : w ≡ walk shows count a d
+  pub going : Going shows count a d w
+  pub arrives : Arriving shows count a d w
+  pub absent : Absent shows count a d w
+
 module _ (shows : ℕ → ℕ → Route) (count a d : ℕ) where
   pub arriving : Arriving shows count a d (walk shows count a d)
   arriving k m one na nd c e =
@@ -47,8 +55,11 @@ module _ (shows : ℕ → ℕ → Route) (count a d : ℕ) where
       let ne : a ≡ d → ⊥ = λ q. far [] (sym q) in
       (lost (λ x. (shows x d).hop) d (min count 64) a ne (omega (arith, one.counts, na)) (no_hop k m a route.hop far), ne)
 
-  -- a course that is the walk has all that is promised of it
-  pub held : {w : Course} → w ≡ walk shows count a d → (w ≡ walk shows count a d) × Going shows count a d w × Arriving shows count a d w × Absent shows count a d w
-  held {w} e =
-      let back = sym e in
-      (e, subst (Going shows count a d) back (going shows count a d), subst (Arriving shows count a d) back arriving, subst (Absent shows count a d) back absent)
+  -- what is promised of a walk that ended so holds of it
+  pub held : (limit : ℕ) → limit ≡ min count 64 → {nodes : List ℕ} {made x : ℕ} → Along shows d limit a nodes made x → (how : End) → walk_from (λ y. (shows y d).hop) d (limit - made) x ≡ ends_at x how
+      → Walked shows count a d (course (take (suc made) nodes) how)
+  held limit e along how ends =
+      let small : limit ≤ 64 = omega arith in
+      let is = ended small along how ends ∙ ap (λ (n : ℕ). walk_from (λ y. (shows y d).hop) d n a) e in
+      let back = sym is in
+      record { value = is; going = subst (Going shows count a d) back (going shows count a d); arrives = subst (Arriving shows count a d) back arriving; absent = subst (Absent shows count a d) back absent }

@@ -1,4 +1,3 @@
 pub mod Courses
 pub mod Going
 pub mod Arrival
-pub mod Places

@@ -1,5 +1,5 @@
 -- The walk from next hop to next hop. Assumes nothing.
-use Rattle.std.specs.Prelude.{ℕ, zero, suc, min, cond, List, [], ◌∷◌, take, drop, ◌==◌}
+use Rattle.std.specs.Prelude.{ℕ, zero, suc, min, if◌then◌else◌, List, [], ◌∷◌, take, drop, ◌==◌}
 use Rattle.spf.specs.declared.route.Route.{Route}
 use Rattle.forwarding.specs.declared.walk.End.{End}
 use Rattle.forwarding.specs.declared.walk.End.TheVariants.{Arrived, Loop, Lost}
@@ -25,8 +25,8 @@ on_from a (suc h) rest = record { nodes = a ∷ rest.nodes; end = rest.end }
 
 -- The course to d from a, where node x shows the next hop `hop x`, with so many hops left: arrived? a loop, since none is left? lost? Else on to the next hop.
 unfoldable pub walk_from : (ℕ → ℕ) → ℕ → ℕ → ℕ → Course
-walk_from hop d zero a = ends_at a (cond (a == d) Arrived Loop)
-walk_from hop d (suc n) a = cond (a == d) (ends_at a Arrived) (on_from a (hop a) (walk_from hop d n (hop a)))
+walk_from hop d zero a = ends_at a (if a == d then Arrived else Loop)
+walk_from hop d (suc n) a = if a == d then ends_at a Arrived else on_from a (hop a) (walk_from hop d n (hop a))
 
 -- The course from a to d over so many nodes, where node x shows the route `shows x v` to v: as many hops as there are nodes are left, at most 64.
 abbrev pub walk : (ℕ → ℕ → Route) → ℕ → ℕ → ℕ → Course

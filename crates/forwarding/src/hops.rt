@@ -1,4 +1,4 @@
-ghost use Rattle.std.specs.Prelude.{◌≡◌, ◌∷◌, replicate};
+ghost use Rattle.std.specs.Prelude.{◌≡◌};
 ghost use Rattle.forwarding.specs.Courses.{course_of, walk};
 ghost use Rattle.forwarding.specs.Arrival.{Arriving, Absent};
 ghost use Rattle.forwarding.specs.Going.{Going};
@@ -14,32 +14,32 @@ pub fn forward<N: NextHops>(network: &N, from: u8, to: u8) -> Walk
     ensures absent { Absent (N.shows network.now) (N.nodes network.now) from to (course_of result) }
 {
     let limit = network.count().min(64) as u8;
-    let mut nodes = beginning(from);
+    let mut nodes = [0; 65];
+    nodes[0] = from;
     let mut at = from;
-    let mut made = 0;
-    let end = loop {
+    for made in 0..limit {
         if at == to {
-            break End::Arrived;
-        }
-        if made == limit {
-            break End::Loop;
+            return Walk {
+                nodes,
+                made,
+                end: End::Arrived,
+            };
         }
         let hop = network.next_hop(at, to);
         if hop == 0 {
-            break End::Lost;
+            return Walk {
+                nodes,
+                made,
+                end: End::Lost,
+            };
         }
-        made += 1;
-        nodes[usize::from(made)] = hop;
         at = hop;
-    };
-    Walk { nodes, made, end }
-}
-
-// The nodes of a walk that has made no hop.
-fn beginning(from: u8) -> [u8; 65]
-    ensures { result ≡ from ∷ replicate 64 0 }
-{
-    let mut nodes = [0; 65];
-    nodes[0] = from;
-    nodes
+        nodes[usize::from(made) + 1] = at;
+    }
+    let end = if at == to { End::Arrived } else { End::Loop };
+    Walk {
+        nodes,
+        made: limit,
+        end,
+    }
 }

@@ -3,7 +3,6 @@
 // - src/next_hops.rt: the trait `NextHops`, for nodes that each show a next hop to a destination
 // - src/trees.rt: `Trees`, a slice of trees, one to a node
 // - src/walk.rt: `Walk`, the nodes of a walk, and `End`, how it ended
-// - src/walked.rt: what a walk hands out
 // - src/hops.rt: `forward`, which walks, with the theorem of forwarding
 // - specs/Courses.antt: the walk as a definition
 // - specs/Going.antt: what holds of it whatever the nodes show
@@ -16,7 +15,6 @@ pub mod hops;
 pub mod next_hops;
 pub mod trees;
 pub mod walk;
-pub mod walked;
 
 pub use hops::forward;
 pub use next_hops::NextHops;

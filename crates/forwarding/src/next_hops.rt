@@ -13,7 +13,7 @@ pub trait NextHops {
     fn count(&self) -> usize
         ensures { result ≡ nodes self.now };
 
-    // The next hop that the node `at` shows for the destination `to`, 0 for none.
+    // The next hop that the node `at` shows for the destination `to`: 0 for none, as the rules write it.
     fn next_hop(&self, at: u8, to: u8) -> u8
         ensures { result ≡ (shows self.now at to).hop };
 }

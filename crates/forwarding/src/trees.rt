@@ -6,7 +6,7 @@ use super::next_hops::NextHops;
 use spf::route::Tree;
 
 // The trees of a network, one to a node: the tree of node x stands at place x - 1. They may hold any numbers at all.
-#[derive(Clone, Copy)]
+#[derive(Clone, Copy, Debug, PartialEq, Eq)]
 pub struct Trees<'a> {
     pub trees: &'a [Tree],
 }
@@ -21,12 +21,9 @@ impl<'a> NextHops for Trees<'a> {
     }
 
     fn next_hop(&self, at: u8, to: u8) -> u8 {
-        let at = usize::from(at);
-        let count = self.trees.len();
-        if at == 0 || at > count {
-            return 0;
-        }
-        hop_in(&self.trees[at - 1], to)
+        self.trees
+            .get(usize::from(at).wrapping_sub(1))
+            .map_or(0, |tree| hop_in(tree, to))
     }
 }
 
@@ -34,8 +31,6 @@ impl<'a> NextHops for Trees<'a> {
 fn hop_in(tree: &Tree, to: u8) -> u8
     ensures { result ≡ (route_at tree.now to).hop }
 {
-    if to == 0 || to > 64 {
-        return 0;
-    }
-    tree[usize::from(to) - 1].hop
+    tree.get(usize::from(to).wrapping_sub(1))
+        .map_or(0, |route| route.hop)
 }

@@ -8,4 +8,4 @@
 pub mod allowed;
 pub mod row;
 
-pub use row::Row;
+pub use row::{Row, RowFull};

@@ -1,11 +1,11 @@
 -- Figures among lines. Assumes nothing.
-use Rattle.std.proofs.Common.{◌≡◌, ℕ, zero, suc, ◌+◌, ◌<◌, ◌≤◌, Bool, true, false, cond, eqb, leb, List, [], ◌∷◌, length, drop, Some, sym, refl, ap, ◌∙◌, inl, inr, arith}
-use mathlib.Core.Path.{subst⁻¹}
-use Rattle.std.proofs.lemmas.List.{at_drop_more}
-use Rattle.std.proofs.lemmas.Bool.{and_parts, leb-true, cases_Bool, eqb-true, eq-eqb, ne_eqb, cond-true, cond-false}
-use Rattle.std.specs.List.{AllByRecursion}
+use Rattle.std.proofs.Common.{◌≡◌, ℕ, zero, suc, ◌<◌, ◌≤◌, true, eqb, List, [], ◌∷◌, length, Some, sym, refl, ◌∙◌, inl, inr, arith}
+use Rattle.std.proofs.lemmas.Bool.{cases_Bool, eqb-true, eq-eqb, ne_eqb, cond-true, cond-false}
+use Rattle.std.proofs.lemmas.Bool.Decides.{nat_tests}
+use Rattle.std.specs.List.{AllByRecursion, find}
+use Rattle.std.specs.Option.{option_map}
 use Rattle.wire.specs.declared.lines.Line.{Line}
-use Rattle.rows.specs.Rows.{no_line, allowed, figures_fit}
+use Rattle.rows.specs.Rows.{allowed, figures_fit}
 use Rattle.rows.proofs.Facts.{neighbour_at, figure_at, first_allowed, rest_allowed, lines_allowed}
 use Rattle.spf.specs.Reading.{shown_figure}
 use Rattle.spf.specs.Rows.{figure_to}
@@ -15,12 +15,7 @@ use Rattle.spf.specs.Rows.{figure_to}
 -- it fits
 pub figure_fits : (v : ℕ) (lines : List Line) → figures_fit lines ≡ true → figure_to v lines ≤ 65535
 figure_fits v [] h = omega arith
-figure_fits v (x ∷ xs) h =
-    let p = and_parts (leb x.figure 65535) (figures_fit xs) h in
-    elim (cases_Bool (eqb x.neighbour v)) [
-      | inl e ↦ subst⁻¹ (λ (n : ℕ). n ≤ 65535) (cond-true (eqb x.neighbour v) x.figure (figure_to v xs) e) (leb-true x.figure 65535 p.0)
-      | inr e ↦ subst⁻¹ (λ (n : ℕ). n ≤ 65535) (cond-false (eqb x.neighbour v) x.figure (figure_to v xs) e) (figure_fits v xs p.1)
-    ]
+figure_fits v (x ∷ xs) h = let rest = figure_fits v xs in grind (arith, nat_tests, rest)
 
 -- it stands at some place
 pub figure_from : (v : ℕ) (lines : List Line) → 1 ≤ figure_to v lines → (i : ℕ) × (i < length lines) × (neighbour_at lines i ≡ v) × (figure_at lines i ≡ figure_to v lines)
@@ -56,21 +51,15 @@ module _ (count node : ℕ) where
   all_figures previous [] h = tt
   all_figures previous (x ∷ xs) h = ((first_allowed count node previous x xs h).figure, all_figures x.neighbour xs (rest_allowed count node previous x xs h))
 
--- ---- a search for it, line by line
-
-module _ (v : ℕ) (lines : List Line) (i : ℕ) (inside : i < length lines) where
-  step : (b : Bool) → eqb (neighbour_at lines i) v ≡ b → figure_to v (drop i lines) ≡ cond b (figure_at lines i) (figure_to v (drop (i + 1) lines))
-  step b e =
-      let open' : figure_to v (drop i lines) ≡ cond (eqb (neighbour_at lines i) v) (figure_at lines i) (figure_to v (drop (i + 1) lines)) =
-      at_drop_more (figure_to v) lines i no_line inside in
-      open' ∙ ap (λ (t : Bool). cond t (figure_at lines i) (figure_to v (drop (i + 1) lines))) e
-
-  pub finds : neighbour_at lines i ≡ v → figure_to v (drop i lines) ≡ figure_at lines i
-  finds e = step true (eq-eqb (neighbour_at lines i) v e)
-
-  pub passes_over : (neighbour_at lines i ≡ v → ⊥) → figure_to v (drop (i + 1) lines) ≡ figure_to v (drop i lines)
-  passes_over e = sym (step false (ne_eqb (neighbour_at lines i) v e))
-
-pub shown_some : (f : ℕ) → 1 ≤ f → Some f ≡ shown_figure f
+shown_some : (f : ℕ) → 1 ≤ f → Some f ≡ shown_figure f
 shown_some zero h = absurd (omega arith)
 shown_some (suc f) h = refl
+
+-- the line that is found shows it
+pub found_figure : (v : ℕ) (lines : List Line) → AllByRecursion (λ x. 1 ≤ x.figure) lines
+    → option_map (λ (x : Line). x.figure) (find (λ (x : Line). eqb x.neighbour v) lines) ≡ shown_figure (figure_to v lines)
+found_figure v [] some = refl
+found_figure v (x ∷ xs) some = elim (cases_Bool (eqb x.neighbour v)) [
+  | inl e ↦ simp e (shown_some x.figure some.0)
+  | inr e ↦ simp e (found_figure v xs some.1)
+]

@@ -1,8 +1,8 @@
 -- The rows that a map holds. Assumes nothing.
-use Rattle.std.proofs.Common.{◌≡◌, ℕ, zero, suc, ◌+◌, ◌-◌, ◌<◌, ◌≤◌, Bool, true, false, cond, ◌&&◌, eqb, leb, ◌≢◌, List, [], ◌∷◌, length, get_or, take, set, replicate, sym, refl, ap, ◌∙◌, subst, inl, inr, arith}
+use Rattle.std.proofs.Common.{◌≡◌, ℕ, zero, suc, ◌+◌, ◌-◌, ◌<◌, ◌≤◌, true, ◌&&◌, eqb, leb, List, [], ◌∷◌, get_or, take, set, replicate, sym, refl, ap, ◌∙◌, subst, inl, inr, arith}
 use mathlib.Core.Path.{subst⁻¹}
-use Rattle.std.proofs.lemmas.List.{get_or_default, get_or-set_same, get_or-set_other}
 use Rattle.std.proofs.lemmas.Bool.{and_parts, and_from, eqb-true, cases_lt, le-leb, lt-leb, cond-true, cond-false}
+use Rattle.std.proofs.lemmas.Bool.Decides.{nat_tests}
 use Rattle.std.specs.List.{AllByRecursion}
 use Rattle.wire.specs.declared.lines.Line.{Line}
 use Rattle.rows.specs.declared.row.Row.{Row}
@@ -16,11 +16,7 @@ use Rattle.spf.proofs.Figures.{figure_fits, figure_leads, all_figures}
 -- ---- the test of all rows, place by place
 
 no_row_at : (count node : ℕ) → allowed_at count node no_row ≡ true
-no_row_at count node = go (leb node count)
-  where
-    go : (b : Bool) → cond b true true ≡ true
-    go true = refl
-    go false = refl
+no_row_at count node = grind (arith, nat_tests)
 
 pub rows_none : (count node n : ℕ) → allowed_rows count node (replicate n no_row) ≡ true
 rows_none count node zero = refl
@@ -104,18 +100,6 @@ pub figures_from : (rows : List Row) (u v : ℕ) → figures rows u v ≡ figure
 figures_from rows zero v = refl
 figures_from rows (suc i) v = refl
 
--- the lines in the row that stands in a node's place
-pub lines_in_place : (rows : List Row) (u : ℕ) (d : Row) → 1 ≤ u → u ≤ length rows → lines_in (get_or rows (u - 1) d) ≡ lines_from rows u
-lines_in_place rows zero d low high = absurd (omega arith)
-lines_in_place rows (suc i) d low high =
-    let e : suc i - 1 ≡ i = omega arith in
-    ap (λ (n : ℕ). lines_in (get_or rows n d)) e ∙ ap lines_in (get_or_default rows i d no_row (omega arith))
-
--- no node is numbered 0
-pub lines_nowhere : (rows : List Row) (u : ℕ) → u < 1 → lines_from rows u ≡ []
-lines_nowhere rows zero low = refl
-lines_nowhere rows (suc i) low = absurd (omega arith)
-
 -- ---- the map
 
 module _ (count : ℕ) (rows : List Row) (some : 1 ≤ count) (few : count ≤ 64) (held : allowed_rows count 1 rows ≡ true) where
@@ -149,17 +133,3 @@ bare n (suc i) v = ap (λ (row : Row). figure_to v (lines_in row)) (same n i)
     same zero i = refl
     same (suc n) zero = refl
     same (suc n) (suc i) = same n i
-
--- a row put in
-module _ (rows : List Row) (node : ℕ) (row : Row) (low : 1 ≤ node) where
-  pub set_here : node ≤ length rows → (v : ℕ) → figures (set rows (node - 1) row) node v ≡ figure_to v (lines_in row)
-  set_here high v =
-      let e : suc (node - 1) ≡ node = omega arith in
-      subst (λ (n : ℕ). figures (set rows (node - 1) row) n v ≡ figure_to v (lines_in row)) e
-      (ap (λ (x : Row). figure_to v (lines_in x)) (get_or-set_same rows (node - 1) row no_row (omega arith)))
-
-  pub set_elsewhere : (u v : ℕ) → (u ≡ node → ⊥) → figures (set rows (node - 1) row) u v ≡ figures rows u v
-  set_elsewhere zero v other = refl
-  set_elsewhere (suc i) v other =
-      let apart : i ≢ (node - 1) = λ e. other (omega arith) in
-      ap (λ (x : Row). figure_to v (lines_in x)) (get_or-set_other rows (node - 1) i row no_row apart)

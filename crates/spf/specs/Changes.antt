@@ -1,15 +1,13 @@
 -- How many routes differ between two trees. Assumes nothing.
-use Rattle.std.specs.Prelude.{◌≡◌, ℕ, Bool, true, false, not, ◌&&◌, List, Some, None, Decides, count_by, Option, ◌==◌}
+use Rattle.std.specs.Prelude.{◌≡◌, ℕ, Bool, not, ◌&&◌, List, Decides, count_by, Option, ◌==◌}
 use Rattle.std.specs.List.{range_with_len}
+use Rattle.std.specs.Option.{option_eq}
 use Rattle.spf.specs.declared.route.Route.{Route}
 use Rattle.spf.specs.Reckoning.{route_at}
 
 -- Two distances are the same: both absent, or the same number.
 abbrev pub same_distance : Option ℕ → Option ℕ → Bool
-same_distance None None = true
-same_distance None (Some b) = false
-same_distance (Some a) None = false
-same_distance (Some a) (Some b) = a == b
+same_distance = option_eq (λ a b. a == b)
 
 -- Two routes are the same: distance, parent and next hop.
 abbrev pub same_route : Route → Route → Bool

@@ -1,5 +1,5 @@
 -- The tree, as it can be reckoned. That these are the routes is proved for every metric that keeps the laws. Assumes nothing.
-use Rattle.std.specs.Prelude.{ℕ, zero, suc, Bool, false, cond, List, map, Some, None, Option, ◌==◌, slice_index_or}
+use Rattle.std.specs.Prelude.{ℕ, zero, suc, Bool, false, if◌then◌else◌, List, map, Some, None, Option, ◌==◌, slice_index_or}
 use Rattle.std.specs.List.{range_with_len}
 use Rattle.metric.specs.Meaning.{Meaning}
 use Rattle.spf.specs.declared.route.Route.{Route}
@@ -9,7 +9,7 @@ use Rattle.spf.specs.Maps.{Map}
 abbrev pub lesser : Meaning → Option ℕ → Option ℕ → Option ℕ
 lesser k None b = b
 lesser k (Some a) None = Some a
-lesser k (Some a) (Some b) = cond (k.less b a) (Some b) (Some a)
+lesser k (Some a) (Some b) = if k.less b a then Some b else Some a
 
 -- What a line of this figure, 0 for no line, brings from a node at this cost.
 abbrev pub brought : Meaning → ℕ → Option ℕ → Option ℕ
@@ -33,7 +33,7 @@ round k m costs = map (λ v. least_to k m (cost_at costs) v m.count) (range_with
 
 -- The least costs over at most so many lines: over none, only the root is reached.
 abbrev pub costs_within : Meaning → Map → ℕ → ℕ → List (Option ℕ)
-costs_within k m r zero = map (λ v. cond (v == r) (Some k.empty) None) (range_with_len 1 m.count)
+costs_within k m r zero = map (λ v. if v == r then Some k.empty else None) (range_with_len 1 m.count)
 costs_within k m r (suc n) = round k m (costs_within k m r n)
 
 -- The distances: no path has as many lines as there are nodes.
@@ -55,16 +55,16 @@ or_else (suc x) y = suc x
 -- The lowest number from 1 to n that passes, 0 where none does.
 abbrev pub lowest : (ℕ → Bool) → ℕ → ℕ
 lowest passes zero = 0
-lowest passes (suc n) = or_else (lowest passes n) (cond (passes (suc n)) (suc n) 0)
+lowest passes (suc n) = or_else (lowest passes n) (if passes (suc n) then suc n else 0)
 
 -- The parent of v, from the distances d.
 abbrev pub parent_from : Meaning → Map → ℕ → (ℕ → Option ℕ) → ℕ → ℕ
-parent_from k m r d v = cond (v == r) 0 (lowest (λ p. leads_to k (m.figure p v) (d p) (d v)) m.count)
+parent_from k m r d v = if v == r then 0 else lowest (λ p. leads_to k (m.figure p v) (d p) (d v)) m.count
 
 -- The node whose parent is the root, on the way from v along parents, in at most n steps; 0 where the way ends before.
 abbrev pub along : (ℕ → ℕ) → ℕ → ℕ → ℕ → ℕ
 along parent r zero v = 0
-along parent r (suc n) v = cond (parent v == r) v (along parent r n (parent v))
+along parent r (suc n) v = if parent v == r then v else along parent r n (parent v)
 
 -- The route to v, from the distances d.
 abbrev pub route_from : Meaning → Map → ℕ → (ℕ → Option ℕ) → ℕ → Route

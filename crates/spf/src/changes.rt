@@ -1,30 +1,19 @@
 // The changed count: how many routes differ between two trees.
-ghost use Rattle.std.specs.Prelude.{◌≡◌, Decides};
-ghost use Rattle.spf.specs.Changes.{same_distance, same_route, changed_count, CountsChanges};
+ghost use Rattle.std.specs.Prelude.{◌≡◌, count_by, not};
+ghost use Rattle.std.specs.List.{zip};
+ghost use Rattle.spf.specs.Changes.{same_route, changed_count, CountsChanges};
 
-use crate::route::{Route, Tree};
+use crate::route::Tree;
 
-// Whether two distances are the same; both may be absent.
-fn same_distance(a: Option<u64>, b: Option<u64>) -> bool
-    ensures { result ≡ same_distance a b }
+// How many routes of one tree are not those at the same places of the other.
+fn differing(before: &Tree, after: &Tree) -> u8
+    ensures { result ≡ count_by (λ p. not (same_route p.0 p.1)) (zip before.now after.now) }
 {
-    match (a, b) {
-        (Some(x), Some(y)) => x == y,
-        (None, None) => true,
-        _ => false,
-    }
-}
-
-impl Route {
-    // Whether two routes are the same in all three parts.
-    pub fn same(self, other: Route) -> bool
-        ensures value { result ≡ same_route self other }
-        ensures law { Decides result (self ≡ other) }
-    {
-        same_distance(self.distance, other.distance)
-            && self.parent == other.parent
-            && self.hop == other.hop
-    }
+    before
+        .iter()
+        .zip(after)
+        .filter(|(old, new)| old != new)
+        .count() as u8
 }
 
 // The number of nodes whose route differs between the two trees.
@@ -32,11 +21,5 @@ pub fn changed(before: &Tree, after: &Tree) -> u8
     ensures value { result ≡ changed_count before.now after.now }
     ensures law { CountsChanges before.now after.now result }
 {
-    let mut count = 0;
-    for place in 0..64 {
-        if !before[place].same(after[place]) {
-            count += 1;
-        }
-    }
-    count
+    differing(before, after)
 }

@@ -1,15 +1,16 @@
 // A map without lines, and a row put in.
-ghost use Rattle.std.specs.Prelude.{◌≡◌, replicate, MatchResult};
-ghost use Rattle.rows.specs.Rows.{no_row};
+ghost use Rattle.std.specs.Prelude.{◌≡◌, Some, MatchResult};
 ghost use Rattle.std.specs.Option.{option_map};
-ghost use Rattle.spf.specs.Making.{parts_of, new_map, replace_answer, replaced, Bare, Replaced};
+ghost use Rattle.spf.specs.Making.{said_of, parts_of, new_map, replace_answer, replaced, Bare, Replaced};
 ghost use Rattle.spf.specs.Model.{map_of};
 
 use crate::map::Map;
 use rows::Row;
+use std::error::Error;
+use std::fmt;
 
 // Why a row was not put in.
-#[derive(Clone, Copy)]
+#[derive(Clone, Copy, Debug, PartialEq, Eq)]
 pub enum MapFault {
     // The number is no node's.
     NoNode,
@@ -17,12 +18,18 @@ pub enum MapFault {
     NotAllowed,
 }
 
-// The row of every number, without a line.
-fn no_rows() -> [Row; 64]
-    ensures { result ≡ replicate 64 no_row }
-{
-    [Row::new(); 64]
+impl fmt::Display for MapFault {
+    ghost output = { λ fault. Some (said_of fault) };
+
+    fn fmt<W: fmt::Write>(&self, f: &mut fmt::Formatter<W>) -> fmt::Result {
+        match self {
+            MapFault::NoNode => write!(f, "the number is no node's"),
+            MapFault::NotAllowed => write!(f, "the row may not be the node's"),
+        }
+    }
 }
+
+impl Error for MapFault {}
 
 impl Map {
     // A map of so many nodes without a line; none unless they are 1 to 64.
@@ -35,7 +42,7 @@ impl Map {
         }
         Some(Map {
             count,
-            rows: no_rows(),
+            rows: [Row::new(); 64],
         })
     }
 
@@ -51,7 +58,7 @@ impl Map {
         if !row.allowed(self.count, node) {
             return Err(MapFault::NotAllowed);
         }
-        self.rows[node as usize - 1] = *row;
+        self.rows[usize::from(node) - 1] = *row;
         Ok(())
     }
 }

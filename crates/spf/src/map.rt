@@ -6,7 +6,7 @@ use rows::Row;
 
 // A map: the count of the nodes, 1 to 64, and the row of lines that leave each. A row has at most 8 lines, at most one to any
 // neighbour; neighbours are nodes of the map, and no figure is 0.
-#[derive(Clone, Copy)]
+#[derive(Clone, Copy, Debug, PartialEq, Eq)]
 pub struct Map {
     pub(crate) count: u8,
     pub(crate) rows: [Row; 64],

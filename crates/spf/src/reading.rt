@@ -1,6 +1,7 @@
 // What a map holds.
-ghost use Rattle.std.specs.Prelude.{◌≡◌, ℕ, ◌<◌, ◌≤◌, true, []};
-ghost use Rattle.std.specs.List.{AllByRecursion};
+ghost use Rattle.std.specs.Prelude.{◌≡◌, ℕ, ◌<◌, ◌≤◌, true, [], ◌==◌};
+ghost use Rattle.std.specs.List.{find};
+ghost use Rattle.std.specs.Option.{option_map};
 ghost use Rattle.rows.specs.Rows.{allowed};
 ghost use Rattle.spf.specs.Maps.{Node, Sound};
 ghost use Rattle.spf.specs.Model.{map_of};
@@ -10,17 +11,14 @@ ghost use Rattle.spf.specs.Rows.{figure_to};
 use crate::map::Map;
 use wire::lines::Line;
 
-// The figure of the line to a node among some lines, none of which has the figure 0.
+// The figure of the line to a node among some lines.
 fn figure_to(node: u8, lines: &[Line]) -> Option<u16>
-    requires { AllByRecursion (λ x. 1 ≤ x.figure) lines.now }
-    ensures { result ≡ shown_figure (figure_to node lines.now) }
+    ensures { result ≡ option_map (λ x. x.figure) (find (λ x. x.neighbour == node) lines.now) }
 {
-    for line in lines {
-        if line.neighbour == node {
-            return Some(line.figure);
-        }
-    }
-    None
+    lines
+        .iter()
+        .find(|line| line.neighbour == node)
+        .map(|line| line.figure)
 }
 
 impl Map {
@@ -39,10 +37,10 @@ impl Map {
         ensures law { Node (map_of self.now) node → allowed (map_of self.now).count node 0 result.now ≡ true }
         ensures none { (map_of self.now).count < node → result.now ≡ [] }
     {
-        if node < 1 || node > 64 {
+        let Some(row) = self.rows.get(usize::from(node).wrapping_sub(1)) else {
             return &[];
-        }
-        self.rows[node as usize - 1].lines()
+        };
+        row.lines()
     }
 
     // The figure of the line from one node to another; none where there is no line.

@@ -1,12 +1,13 @@
 -- Next hops, found in the order of settling. Assumes nothing.
-use Rattle.std.proofs.Common.{◌≡◌, ℕ, Bool, true, false, cond, eqb, ◌⊎◌, sym, ap, ◌∙◌, subst, inl, inr}
+use Rattle.std.proofs.Common.{◌≡◌, ℕ, Bool, true, false, ◌⊎◌, sym, ap, ◌∙◌, subst, inl, inr, arith}
 use mathlib.Core.Path.{subst⁻¹}
-use Rattle.std.proofs.lemmas.Bool.{both_ways, cases_Bool, cases_eq, eq-eqb, cond-true, cond-false}
+use Rattle.std.proofs.lemmas.Bool.{both_ways, cases_Bool, cases_eq, cond-true, cond-false}
+use Rattle.std.proofs.lemmas.Bool.Decides.{nat_tests}
 use Rattle.spf.specs.declared.route.Route.{Route}
 use Rattle.spf_laws.specs.Searches.{hop_by, HopsSo}
 
 hop_none : (r v p h h' : ℕ) → p ≡ 0 → hop_by r v p h ≡ hop_by r v p h'
-hop_none r v p h h' e = cond-true (eqb p 0) 0 (cond (eqb p r) v h) (eq-eqb p 0 e) ∙ sym (cond-true (eqb p 0) 0 (cond (eqb p r) v h') (eq-eqb p 0 e))
+hop_none r v p h h' e = grind (arith, nat_tests)
 
 -- R are the routes before u is settled, R' after it and after its offers.
 module _ (r : ℕ) (R R' : ℕ → Route) (s s' : ℕ → Bool) (u : ℕ) (fresh : s u ≡ false) (done : s' u ≡ true) (others : (w : ℕ) → (w ≡ u → ⊥) → s' w ≡ s w)

@@ -1,6 +1,6 @@
 -- What the four laws give of "not more than". Assumes nothing.
-use Rattle.std.proofs.Common.{◌≡◌, ℕ, Bool, true, false, Some, Option, refl, subst, inl, inr}
-use Rattle.std.proofs.lemmas.Bool.{both_ways}
+use Rattle.std.proofs.Common.{◌≡◌, ℕ, true, false, Some, Option, subst, inl, inr}
+use Rattle.std.proofs.lemmas.Bool.{both_ways, false_from_ne_true}
 use Rattle.metric.specs.Meaning.{Meaning, Cost}
 use Rattle.metric.specs.Laws.{Laws}
 
@@ -12,17 +12,13 @@ AtMost k a b = k.less b a ≡ false
 abbrev pub NoMore : Meaning → Option ℕ → ℕ → Type 0
 NoMore k o b = (a : ℕ) × (o ≡ Some a) × AtMost k a b
 
-not_true_false : (b : Bool) → (b ≡ true → ⊥) → b ≡ false
-not_true_false true h = absurd (h refl)
-not_true_false false h = refl
-
 module _ (k : Meaning) (laws : Laws k) where
   pub less_at_most : {a b : ℕ} → Cost k a → Cost k b → k.less a b ≡ true → AtMost k a b
-  less_at_most {a} {b} ca cb h = not_true_false (k.less b a) (λ g. both_ways (k.less a a) (laws.irreflexive a ca) (laws.transitive a b a ca cb ca h g))
+  less_at_most {a} {b} ca cb h = false_from_ne_true (k.less b a) (λ g. both_ways (k.less a a) (laws.irreflexive a ca) (laws.transitive a b a ca cb ca h g))
 
   pub at_most_trans : {a b c : ℕ} → Cost k a → Cost k b → Cost k c → AtMost k a b → AtMost k b c → AtMost k a c
   at_most_trans {a} {b} {c} ca cb cc' p q =
-      not_true_false (k.less c a) (λ h. elim (laws.total a b ca cb) [
+      false_from_ne_true (k.less c a) (λ h. elim (laws.total a b ca cb) [
         | inl ab ↦ both_ways (k.less c b) q (laws.transitive c a b cc' ca cb h ab)
         | inr o ↦ elim o [
           | inl e ↦ both_ways (k.less c b) q (subst (λ (x : ℕ). k.less c x ≡ true) e h)

@@ -1,5 +1,5 @@
 -- What a search for the shortest paths keeps. Assumes nothing.
-use Rattle.std.specs.Prelude.{◌≡◌, ℕ, zero, suc, ◌+◌, ◌<◌, ◌≤◌, min, Bool, true, false, cond, ◌&&◌, List, Some, None, Option, ◌==◌}
+use Rattle.std.specs.Prelude.{◌≡◌, ℕ, zero, suc, ◌+◌, ◌<◌, ◌≤◌, min, Bool, true, false, if◌then◌else◌, ◌&&◌, List, Some, None, Option, ◌==◌}
 use Rattle.metric.specs.Meaning.{Meaning}
 use Rattle.spf.specs.declared.route.Route.{Route}
 use Rattle.spf.specs.Maps.{Map, Joined}
@@ -18,7 +18,7 @@ pub record Going (k : Meaning) (m : Map) (r : ℕ) (t : ℕ → Option ℕ) (s :
 -- How many numbers from 1 to n pass.
 unfoldable pub passing : (ℕ → Bool) → ℕ → ℕ
 passing passes zero = 0
-passing passes (suc n) = cond (passes (suc n)) 1 0 + passing passes n
+passing passes (suc n) = (if passes (suc n) then 1 else 0) + passing passes n
 
 -- x is the lowest number from 1 to n that passes, 0 where none does.
 abbrev pub Lowest : (ℕ → Bool) → ℕ → ℕ → Type 0
@@ -38,8 +38,8 @@ lower_of (suc p) u = min (suc p) u
 abbrev pub compared : Meaning → ℕ → ℕ → Route → Option ℕ → Route
 compared k u c route None = record { distance = Some c; parent = u; hop = route.hop }
 compared k u c route (Some b) =
-    cond (k.less c b) (record { distance = Some c; parent = u; hop = route.hop })
-    (cond (c == b) (record { distance = route.distance; parent = lower_of route.parent u; hop = route.hop }) route)
+    if k.less c b then record { distance = Some c; parent = u; hop = route.hop }
+    else (if c == b then record { distance = route.distance; parent = lower_of route.parent u; hop = route.hop } else route)
 
 -- A route after the offer of a cost by u.
 abbrev pub offered : Meaning → ℕ → ℕ → Route → Route
@@ -52,11 +52,11 @@ after_line k u a (suc f) route = offered k u (k.add a (suc f)) route
 
 -- The next hop of v, from its parent p and the next hop of that.
 abbrev pub hop_by : ℕ → ℕ → ℕ → ℕ → ℕ
-hop_by r v p h = cond (p == 0) 0 (cond (p == r) v h)
+hop_by r v p h = if p == 0 then 0 else (if p == r then v else h)
 
 -- A settled node has its next hop by its parent, and a node that waits has none yet.
 abbrev pub HopsSo : ℕ → (ℕ → Route) → (ℕ → Bool) → ℕ → Type 0
-HopsSo r routes s v = (routes v).hop ≡ cond (s v) (hop_by r v (routes v).parent (routes (routes v).parent).hop) 0
+HopsSo r routes s v = (routes v).hop ≡ (if s v then hop_by r v (routes v).parent (routes (routes v).parent).hop else 0)
 
 -- What a search keeps of its routes, where the nodes of s are settled: the costs as said above, the lowest parent among the settled nodes, and the next hops of these.
 pub record Searching (k : Meaning) (m : Map) (r : ℕ) (routes : ℕ → Route) (s : ℕ → Bool) : Type 0 where

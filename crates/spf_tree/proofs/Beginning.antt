@@ -1,7 +1,8 @@
 -- How the list of reached nodes is made of a table. Assumes nothing.
 use Rattle.std.proofs.Common.{◌≡◌, ℕ, ◌+◌, ◌<◌, ◌≤◌, Bool, true, false, ◌&&◌, leb, List, length, get_or, set, sym, ap, ◌∙◌, inl, inr, add-one, arith}
 use mathlib.Core.Path.{subst⁻¹}
-use Rattle.std.proofs.lemmas.Bool.{cases_eq, cases_lt, and_parts, and_left, and_right, and_from, leb-true, le-leb, lt-leb}
+use Rattle.std.proofs.lemmas.Bool.{cases_eq, and_right, and_from, le-leb}
+use Rattle.std.proofs.lemmas.Bool.Decides.{nat_tests}
 use Rattle.spf.specs.declared.route.Route.{Route}
 use Rattle.spf.specs.Reckoning.{no_route}
 use Rattle.spf_tree.specs.Queues.{Queued, reaches, reached_by}
@@ -11,31 +12,15 @@ use Rattle.spf_tree.proofs.Queue.{queue_same, queue_push, room}
 abbrev pub up_to : List Route → ℕ → ℕ → Bool
 up_to routes i v = leb v i && reached_by routes v
 
-zero_le : (x : ℕ) → 0 ≤ x
-zero_le x = omega arith
-
-pub begin_none : (routes : List Route) (nodes : List ℕ) → Queued (up_to routes 0) nodes 0
-begin_none routes nodes = record {
-  few = zero_le _;
-  once = λ i j h. absurd (omega arith);
-  low = λ i h. absurd (omega arith);
-  high = λ i h. absurd (omega arith);
-  known = λ i h. absurd (omega arith);
-  every = λ v low high y. absurd (omega (arith, leb-true v 0 (and_parts (leb v 0) (reached_by routes v) y).0));
-}
-
 next_is : (routes : List Route) (i : ℕ) → reached_by routes (i + 1) ≡ reaches (get_or routes i no_route)
 next_is routes i = ap (reached_by routes) (add-one i)
 
 -- all but the next one are as they were
 still : (routes : List Route) (i v : ℕ) → (v ≡ i + 1 → ⊥) → up_to routes (i + 1) v ≡ up_to routes i v
-still routes i v n = ap (λ (b : Bool). b && reached_by routes v) (elim (cases_lt i v) [
-  | inl h ↦ lt-leb v (i + 1) (omega arith) ∙ sym (lt-leb v i h)
-  | inr h ↦ le-leb v (i + 1) (omega arith) ∙ sym (le-leb v i h)
-])
+still routes i v n = grind (arith, nat_tests)
 
 not_yet : (routes : List Route) (i : ℕ) → up_to routes i (i + 1) ≡ false
-not_yet routes i = and_left (leb (i + 1) i) (reached_by routes (i + 1)) (lt-leb (i + 1) i (omega arith))
+not_yet routes i = grind (arith, nat_tests)
 
 pub begin_skip : (routes : List Route) (nodes : List ℕ) (i reached : ℕ) → reaches (get_or routes i no_route) ≡ false → Queued (up_to routes i) nodes reached → Queued (up_to routes (i + 1)) nodes reached
 begin_skip routes nodes i reached z q = queue_same (up_to routes i) (up_to routes (i + 1)) nodes reached

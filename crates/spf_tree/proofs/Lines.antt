@@ -1,8 +1,7 @@
 -- The offers of all lines that leave a node. Assumes nothing.
-use Rattle.std.proofs.Common.{◌≡◌, ℕ, zero, suc, ◌+◌, ◌<◌, ◌≤◌, true, eqb, List, [], ◌∷◌, length, get_or, take, sym, refl, ap, ◌∙◌, subst, inl, inr, arith}
+use Rattle.std.proofs.Common.{◌≡◌, ℕ, zero, suc, ◌<◌, ◌≤◌, true, eqb, List, [], ◌∷◌, length, get_or, take, sym, refl, ap, ◌∙◌, subst, inl, inr, arith}
 use mathlib.Core.Path.{subst⁻¹}
 use Rattle.std.proofs.lemmas.List.{take_all}
-use Rattle.std.proofs.lemmas.List.Sums.{fold_more}
 use Rattle.std.proofs.lemmas.Bool.{cases_eq, eq-eqb, ne_eqb, cond-true, cond-false}
 use Rattle.metric.specs.Meaning.{Meaning}
 use Rattle.wire.specs.declared.lines.Line.{Line}
@@ -10,29 +9,11 @@ use Rattle.rows.specs.Rows.{allowed, no_line}
 use Rattle.rows.proofs.Facts.{first_allowed, rest_allowed, lines_allowed}
 use Rattle.spf.specs.declared.route.Route.{Route}
 use Rattle.spf.specs.Reckoning.{route_at}
+use Rattle.spf.specs.Maps.{Map}
 use Rattle.spf.specs.Rows.{figure_to}
 use Rattle.spf_laws.specs.Searches.{offered, after_line}
 use Rattle.spf_tree.specs.declared.search.Search.{Search}
-use Rattle.spf_tree.specs.Queues.{Queued, reached_by, Mirrors}
-use Rattle.spf_tree.specs.Steps.{Offered, offered_at, offered_all}
-
-pub offered_none : (k : Meaning) (u a : ℕ) (s : Search) → Queued (reached_by s.routes) s.nodes s.reached → Mirrors s.routes s.costs → Offered (offered_all k u a []) s s
-offered_none k u a s q mirrored = record { queued = q; mirrored = mirrored; routes = λ v. refl; listed = λ i h. refl; reached = omega arith; settled = refl; sized = refl }
-
-pub offered_more : (k : Meaning) (u a : ℕ) (lines : List Line) (i : ℕ) (x : Line) (s₀ s₁ s₂ : Search) → i < length lines → x ≡ get_or lines i no_line
-    → Offered (offered_all k u a (take i lines)) s₀ s₁ → Offered (offered_at k u a x) s₁ s₂ → Offered (offered_all k u a (take (i + 1) lines)) s₀ s₂
-offered_more k u a lines i x s₀ s₁ s₂ h e before here = record {
-  queued = here.queued;
-  routes = λ v.
-      here.routes v ∙ ap (offered_at k u a x v) (before.routes v)
-      ∙ ap (λ (y : Line). offered_at k u a y v (offered_all k u a (take i lines) v (route_at s₀.routes v))) e
-      ∙ sym (fold_more (λ (r : Route) (y : Line). offered_at k u a y v r) (route_at s₀.routes v) lines i no_line h);
-  listed = λ j l. here.listed j (omega (arith, before.reached)) ∙ before.listed j l;
-  reached = omega (arith, before.reached, here.reached);
-  settled = here.settled ∙ before.settled;
-  mirrored = here.mirrored;
-  sized = here.sized ∙ before.sized;
-}
+use Rattle.spf_tree.specs.Steps.{Offered, offered_all}
 
 pub offered_all_lem : (k : Meaning) (u a : ℕ) (lines : List Line) (i : ℕ) (s₀ s₁ : Search) → length lines ≤ i → Offered (offered_all k u a (take i lines)) s₀ s₁ → Offered (offered_all k u a lines) s₀ s₁
 offered_all_lem k u a lines i s₀ s₁ h = subst (λ (xs : List Line). Offered (offered_all k u a xs) s₀ s₁) (take_all i lines h)
@@ -77,3 +58,16 @@ module _ (k : Meaning) (u a count node v : ℕ) where
             ∙ lines_offer x.neighbour xs route rest
             ∙ ap (λ (f : ℕ). after_line k u a f route) (sym (cond-false (eqb x.neighbour v) x.figure (figure_to v xs) (ne_eqb x.neighbour v (λ e. n (sym e)))))
       ]
+
+-- after them the routes are as the figures of the map say
+pub offered_lines : (k : Meaning) (u a : ℕ) (m : Map) (lines : List Line) (s₀ s₁ : Search) → ((v : ℕ) → m.figure u v ≡ figure_to v lines) → allowed m.count u 0 lines ≡ true
+    → Offered (offered_all k u a lines) s₀ s₁ → Offered (λ v. after_line k u a (m.figure u v)) s₀ s₁
+offered_lines k u a m lines s₀ s₁ figures ok all = record {
+  routes = λ v.
+      let route = route_at s₀.routes v in
+      all.routes v ∙ lines_offer k u a m.count u v 0 lines route ok ∙ ap (λ (f : ℕ). after_line k u a f route) (sym (figures v));
+  listed = all.listed;
+  reached = all.reached;
+  settled = all.settled;
+  sized = all.sized;
+}

@@ -15,6 +15,33 @@ one_more p q = omega arith
 below : {x y z : ℕ} → x ≤ y → y < z → z ≤ 64 → x < 64
 below p q s = omega arith
 
+-- what it is to be listed
+pub listed_at : (nodes : List ℕ) (n i : ℕ) → i < n → listed nodes n (get_or nodes i 0) ≡ true
+listed_at nodes zero i h = absurd (omega arith)
+listed_at nodes (suc n) i h = elim (cases_eq i n) [
+  | inl e ↦ or_left (eqb (get_or nodes n 0) (get_or nodes i 0)) (listed nodes n (get_or nodes i 0)) (eq-eqb (get_or nodes n 0) (get_or nodes i 0) (ap (λ (x : ℕ). get_or nodes x 0) (sym e)))
+  | inr o ↦ or_right (eqb (get_or nodes n 0) (get_or nodes i 0)) (listed nodes n (get_or nodes i 0)) (listed_at nodes n i (omega arith))
+]
+
+pub listed_where : (nodes : List ℕ) (n v : ℕ) → listed nodes n v ≡ true → (i : ℕ) × (i < n) × (get_or nodes i 0 ≡ v)
+listed_where nodes zero v e = let z : ◌≡◌ {A = ℕ} 0 1 = cc in absurd (omega arith)
+listed_where nodes (suc n) v e = elim (or_cases (eqb (get_or nodes n 0) v) (listed nodes n v) e) [
+  | inl x ↦ (n, omega arith, eqb-true (get_or nodes n 0) v x)
+  | inr x ↦ let (i, h, y) = listed_where nodes n v x in (i, omega arith, y)
+]
+
+pub listed_same : (nodes nodes' : List ℕ) (n v : ℕ) → ((i : ℕ) → i < n → get_or nodes' i 0 ≡ get_or nodes i 0) → listed nodes' n v ≡ listed nodes n v
+listed_same nodes nodes' zero v e = refl
+listed_same nodes nodes' (suc n) v e =
+    ap (λ (x : ℕ). eqb x v || listed nodes' n v) (e n (omega arith)) ∙ ap (λ (b : Bool). eqb (get_or nodes n 0) v || b) (listed_same nodes nodes' n v (λ i h. e i (omega arith)))
+
+listed_of : (nodes : List ℕ) (n v i : ℕ) → i < n → get_or nodes i 0 ≡ v → listed nodes n v ≡ true
+listed_of nodes n v i h e = subst (λ (x : ℕ). listed nodes n x ≡ true) e (listed_at nodes n i h)
+
+-- where a node that passes stands
+pub placed : (p : ℕ → Bool) (nodes : List ℕ) (reached v : ℕ) → Queued p nodes reached → 1 ≤ v → v ≤ 64 → p v ≡ true → (i : ℕ) × (i < reached) × (get_or nodes i 0 ≡ v)
+placed p nodes reached v q low high y = listed_where nodes reached v (q.every v low high y)
+
 pub queue_same : (p p' : ℕ → Bool) (nodes : List ℕ) (reached : ℕ) → ((v : ℕ) → 1 ≤ v → v ≤ 64 → p' v ≡ p v) → Queued p nodes reached → Queued p' nodes reached
 queue_same p p' nodes reached e q = record {
   few = chain q.few (passing_le p p' 64 (λ w low high y. e w low high ∙ y));
@@ -71,8 +98,10 @@ module _ (p p' : ℕ → Bool) (nodes : List ℕ) (reached w : ℕ) (low : 1 ≤
     high = each (λ x. x ≤ 64) high q.high;
     known = each (λ x. p' x ≡ true) now (λ i h. passes_still (get_or nodes i 0) (q.known i h));
     every = λ v l h y. elim (cases_eq v w) [
-      | inl e ↦ (reached, omega arith, here ∙ sym e)
-      | inr n ↦ let (i, hi, e) = q.every v l h (sym (others v n) ∙ y) in (i, omega arith, before i hi ∙ e)
+      | inl e ↦ listed_of (set nodes reached w) (reached + 1) v reached (omega arith) (here ∙ sym e)
+      | inr n ↦
+          let (i, hi, e) = placed p nodes reached v q l h (sym (others v n) ∙ y) in
+          listed_of (set nodes reached w) (reached + 1) v i (omega arith) (before i hi ∙ e)
     ];
   }
 
@@ -99,7 +128,10 @@ module _ (nodes nodes' : List ℕ) (a b : ℕ) (over : ChangedOver nodes nodes' 
     low = λ i h. let (x, ex, wx) = stood i in subst⁻¹ (λ (z : ℕ). 1 ≤ z) ex (q.low x (within i x h wx));
     high = λ i h. let (x, ex, wx) = stood i in subst⁻¹ (λ (z : ℕ). z ≤ 64) ex (q.high x (within i x h wx));
     known = λ i h. let (x, ex, wx) = stood i in subst⁻¹ (λ (z : ℕ). p z ≡ true) ex (q.known x (within i x h wx));
-    every = λ v l h y. let (i, hi, e) = q.every v l h y in now_at i v hi e;
+    every = λ v l h y.
+        let (i, hi, e) = placed p nodes reached v q l h y in
+        let (j, hj, f) = now_at i v hi e in
+        listed_of nodes' reached v j hj f;
   }
     where
       within : (i x : ℕ) → i < reached → (((i ≡ a) × (x ≡ b)) ⊎ (((i ≡ b) × (x ≡ a)) ⊎ ((i ≡ a → ⊥) × (i ≡ b → ⊥) × (x ≡ i)))) → x < reached
@@ -127,26 +159,6 @@ module _ (nodes nodes' : List ℕ) (a b : ℕ) (over : ChangedOver nodes nodes' 
           | inr o ↦ (i, h, over.2 i n o ∙ e)
         ]
       ]
-
--- what it is to be listed
-pub listed_at : (nodes : List ℕ) (n i : ℕ) → i < n → listed nodes n (get_or nodes i 0) ≡ true
-listed_at nodes zero i h = absurd (omega arith)
-listed_at nodes (suc n) i h = elim (cases_eq i n) [
-  | inl e ↦ or_left (eqb (get_or nodes n 0) (get_or nodes i 0)) (listed nodes n (get_or nodes i 0)) (eq-eqb (get_or nodes n 0) (get_or nodes i 0) (ap (λ (x : ℕ). get_or nodes x 0) (sym e)))
-  | inr o ↦ or_right (eqb (get_or nodes n 0) (get_or nodes i 0)) (listed nodes n (get_or nodes i 0)) (listed_at nodes n i (omega arith))
-]
-
-pub listed_where : (nodes : List ℕ) (n v : ℕ) → listed nodes n v ≡ true → (i : ℕ) × (i < n) × (get_or nodes i 0 ≡ v)
-listed_where nodes zero v e = let z : ◌≡◌ {A = ℕ} 0 1 = cc in absurd (omega arith)
-listed_where nodes (suc n) v e = elim (or_cases (eqb (get_or nodes n 0) v) (listed nodes n v) e) [
-  | inl x ↦ (n, omega arith, eqb-true (get_or nodes n 0) v x)
-  | inr x ↦ let (i, h, y) = listed_where nodes n v x in (i, omega arith, y)
-]
-
-pub listed_same : (nodes nodes' : List ℕ) (n v : ℕ) → ((i : ℕ) → i < n → get_or nodes' i 0 ≡ get_or nodes i 0) → listed nodes' n v ≡ listed nodes n v
-listed_same nodes nodes' zero v e = refl
-listed_same nodes nodes' (suc n) v e =
-    ap (λ (x : ℕ). eqb x v || listed nodes' n v) (e n (omega arith)) ∙ ap (λ (b : Bool). eqb (get_or nodes n 0) v || b) (listed_same nodes nodes' n v (λ i h. e i (omega arith)))
 
 pub queue_few : (p : ℕ → Bool) (nodes : List ℕ) (reached : ℕ) → Queued p nodes reached → reached ≤ 64
 queue_few p nodes reached q = chain q.few (passing_few p 64)

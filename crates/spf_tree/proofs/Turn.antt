@@ -1,49 +1,37 @@
 -- One turn of the search, over its lists. Assumes nothing.
-use Rattle.std.proofs.Common.{◌≡◌, ℕ, zero, suc, ◌+◌, ◌-◌, ◌<◌, ◌≤◌, Bool, true, false, ◌||◌, eqb, List, length, get_or, set, is_some, Some, sym, refl, ap, ◌∙◌, subst, ap₂, inl, inr, add-one, arith, length-set}
+use Rattle.std.proofs.Common.{◌≡◌, ℕ, ◌+◌, ◌-◌, ◌<◌, ◌≤◌, Bool, true, false, ◌||◌, eqb, List, length, get_or, set, is_some, Some, sym, refl, ap, ◌∙◌, subst, ap₂, inl, inr, add-one, arith, length-set}
 use mathlib.Core.Path.{subst⁻¹}
 use Rattle.std.proofs.lemmas.Bool.{both_ways, cases_Bool, cases_eq, cases_lt, eq-eqb, ne_eqb, or_left}
 use Rattle.metric.specs.Meaning.{Meaning}
 use Rattle.metric.specs.Laws.{Laws}
-use Rattle.wire.specs.declared.lines.Line.{Line}
-use Rattle.rows.specs.Rows.{allowed}
 use Rattle.spf.specs.Maps.{Map, Node, Sound}
 use Rattle.spf.specs.Routes.{IsRoute}
-use Rattle.spf.specs.Rows.{figure_to}
 use Rattle.spf.specs.declared.route.Route.{Route}
 use Rattle.spf.specs.Reckoning.{route_at}
-use Rattle.spf_laws.specs.Searches.{Lowest, offers, after_line, Searching, Partial}
+use Rattle.spf_laws.specs.Searches.{after_line, Searching, Partial}
 use Rattle.spf_laws.proofs.Orders.{AtMost}
 use Rattle.spf_laws.proofs.Paths.{path_node}
 use Rattle.spf_laws.proofs.Settle.{cost_of}
 use Rattle.spf_laws.proofs.Steps.{start, stepped}
 use Rattle.spf_laws.proofs.Finish.{found}
 use Rattle.spf_tree.specs.declared.search.Search.{Search}
-use Rattle.spf_tree.specs.Queues.{Queued, reached_by, listed, Nearest, Costs, ChangedOver, Mirrors}
-use Rattle.spf_tree.specs.Steps.{hopped, offered_all, Offered}
-use Rattle.spf_tree.proofs.Queue.{queue_same, queue_swap, queue_few, listed_at, listed_where, listed_same}
-use Rattle.spf_tree.proofs.Mirror.{some_of, mirror_same}
+use Rattle.spf_tree.specs.Queues.{reached_by, listed, Nearest, Costs, ChangedOver}
+use Rattle.spf_tree.specs.Steps.{hopped, Offered}
+use Rattle.spf_tree.proofs.Queue.{queue_few, placed, listed_at, listed_where, listed_same}
+use Rattle.spf_tree.proofs.Choice.{some_of}
 use Rattle.spf_tree.proofs.Offers.{route_set, route_other}
-use Rattle.spf_tree.proofs.Lines.{lines_offer}
 
 -- What holds of a search between two turns.
 pub record Held (k : Meaning) (m : Map) (r : ℕ) (s : Search) : Type 0 where
   pub searching : Searching k m r (route_at s.routes) (listed s.nodes s.settled)
-  pub queued : Queued (reached_by s.routes) s.nodes s.reached
   pub order : s.settled ≤ s.reached
-  pub mirrored : Mirrors s.routes s.costs
   pub long : length s.routes ≡ 64
 
-lowest_le : (t : ℕ → Bool) (n p : ℕ) → Lowest t n p → p ≤ n
-lowest_le t n zero h = omega arith
-lowest_le t n (suc p) h = h.0
-
-pub held_first : (k : Meaning) (m : Map) (r : ℕ) (s : Search) (table : List Route) → s.routes ≡ table → s.settled ≡ 0 → Queued (reached_by table) s.nodes s.reached → Mirrors table s.costs → length table ≡ 64 → Partial k m r (route_at table) → Held k m r s
-held_first k m r s table e z q mirrored long p = record {
+pub held_first : (k : Meaning) (m : Map) (r : ℕ) (s : Search) (table : List Route) → s.routes ≡ table → s.settled ≡ 0 → length table ≡ 64 → Partial k m r (route_at table) → Held k m r s
+held_first k m r s table e z long p = record {
   searching = subst⁻¹ (λ (xs : List Route). Searching k m r (route_at xs) (listed s.nodes s.settled)) e
       (start k m r (route_at table) (listed s.nodes s.settled) (λ v. ap (λ (n : ℕ). listed s.nodes n v) z) p);
-  queued = subst⁻¹ (λ (xs : List Route). Queued (reached_by xs) s.nodes s.reached) e q;
   order = omega (arith, z);
-  mirrored = subst⁻¹ (λ (xs : List Route). Mirrors xs s.costs) e mirrored;
   long = ap length e ∙ long;
 }
 
@@ -55,22 +43,19 @@ module _ (k : Meaning) (laws : Laws k) (m : Map) (sound : Sound m) (r : ℕ) (ro
   node_of v c e = let (us, p, _) = held.searching.going.reached v c e in path_node m sound r root us v p
 
   pub node_at : (place : ℕ) → place < s.reached → Node m (get_or s.nodes place 0)
-  node_at place h = let (c, e) = some_of (route_at s.routes (get_or s.nodes place 0)).distance (held.queued.known place h) in node_of (get_or s.nodes place 0) c e
-
-  pub parent_fits : (v : ℕ) → (route_at s.routes v).parent ≤ 64
-  parent_fits v = omega (arith, sound.small, lowest_le (offers k m (λ w. (route_at s.routes w).distance) (listed s.nodes s.settled) v) m.count (route_at s.routes v).parent (held.searching.chosen v))
+  node_at place h = let (c, e) = some_of (route_at s.routes (get_or s.nodes place 0)).distance (s.queued.known place h) in node_of (get_or s.nodes place 0) c e
 
   -- where no node waits
   pub finished : s.reached ≤ s.settled → (v : ℕ) → IsRoute k m r v (route_at s.routes v)
   finished h = found k laws m sound r root (route_at s.routes) (listed s.nodes s.settled) held.searching
       (λ w c z e.
       let nw = node_of w c e in
-      let (i, l, q) = held.queued.every w nw.0 (omega (arith, nw.1, sound.small)) (ap is_some e) in
+      let (i, l, q) = placed (reached_by s.routes) s.nodes s.reached w s.queued nw.0 (omega (arith, nw.1, sound.small)) (ap is_some e) in
       both_ways (listed s.nodes s.settled w) z (subst (λ (x : ℕ). listed s.nodes s.settled x ≡ true) q (listed_at s.nodes s.settled i (omega arith))))
 
   -- the nearest node u, at the cost a, is settled: the search is then `mid`, and `after` the offers of its lines
   module _ (place u a : ℕ) (there : place < s.reached) (is : u ≡ get_or s.nodes place 0) (near : Nearest k s.routes s.nodes s.settled s.reached place a)
-      (mid : Search) (nodes : ChangedOver s.nodes mid.nodes s.settled place) (one : mid.settled ≡ s.settled + 1) (same : mid.reached ≡ s.reached) (unmoved : mid.costs ≡ s.costs)
+      (mid : Search) (nodes : ChangedOver s.nodes mid.nodes s.settled place) (one : mid.settled ≡ s.settled + 1) (same : mid.reached ≡ s.reached)
       (routes : mid.routes ≡ set s.routes (u - 1) (hopped r u s.routes)) where
     node : Node m u
     node = subst⁻¹ (Node m) is (node_at place there)
@@ -93,16 +78,7 @@ module _ (k : Meaning) (laws : Laws k) (m : Map) (sound : Sound m) (r : ℕ) (ro
       | inr n ↦ ap (λ (x : Route). x.parent) (elsewhere v n)
     ]
 
-    pub mid_queued : Queued (reached_by mid.routes) mid.nodes mid.reached
-    mid_queued = subst⁻¹ (λ (n : ℕ). Queued (reached_by mid.routes) mid.nodes n) same
-        (queue_same (reached_by s.routes) (reached_by mid.routes) mid.nodes s.reached (λ v _ _. ap is_some (same_costs v))
-        (queue_swap s.nodes mid.nodes s.settled place nodes (reached_by s.routes) s.reached (omega (arith, near.low, there)) there held.queued))
-
-    pub mid_mirrored : Mirrors mid.routes mid.costs
-    mid_mirrored = subst⁻¹ (Mirrors mid.routes) unmoved (mirror_same s.routes mid.routes s.costs same_costs held.mirrored)
-
-    module _ (lines : List Line) (figures : (v : ℕ) → m.figure u v ≡ figure_to v lines) (ok : allowed m.count u 0 lines ≡ true)
-        (after : Search) (offered : Offered (offered_all k u a lines) mid after) where
+    module _ (after : Search) (offered : Offered (λ v. after_line k u a (m.figure u v)) mid after) where
       settled_is : after.settled ≡ s.settled + 1
       settled_is = offered.settled ∙ one
 
@@ -122,21 +98,18 @@ module _ (k : Meaning) (laws : Laws k) (m : Map) (sound : Sound m) (r : ℕ) (ro
         | inr z ↦ z
         | inl y ↦
             let (i, h, e) = listed_where s.nodes s.settled u y in
-            let p : i ≡ place = held.queued.once i place (omega (arith, held.order)) there (e ∙ is) in
+            let p : i ≡ place = s.queued.once i place (omega (arith, held.order)) there (e ∙ is) in
             absurd (omega (arith, near.low))
       ]
 
       nearest : (w c : ℕ) → listed s.nodes s.settled w ≡ false → (route_at s.routes w).distance ≡ Some c → AtMost k a c
       nearest w c z e =
           let nw = node_of w c e in
-          let (i, h, q) = held.queued.every w nw.0 (omega (arith, nw.1, sound.small)) (ap is_some e) in
+          let (i, h, q) = placed (reached_by s.routes) s.nodes s.reached w s.queued nw.0 (omega (arith, nw.1, sound.small)) (ap is_some e) in
           elim (cases_lt i s.settled) [
             | inl l ↦ absurd (both_ways (listed s.nodes s.settled w) z (subst (λ (x : ℕ). listed s.nodes s.settled x ≡ true) q (listed_at s.nodes s.settled i l)))
             | inr l ↦ near.none_nearer i c l h (ap (λ (x : ℕ). (route_at s.routes x).distance) q ∙ e)
           ]
-
-      changed : (v : ℕ) → route_at after.routes v ≡ after_line k u a (m.figure u v) (route_at mid.routes v)
-      changed v = offered.routes v ∙ lines_offer k u a m.count u v 0 lines (route_at mid.routes v) ok ∙ ap (λ (f : ℕ). after_line k u a f (route_at mid.routes v)) (sym (figures v))
 
       pub held_next : Held k m r after
       held_next = record {
@@ -144,12 +117,10 @@ module _ (k : Meaning) (laws : Laws k) (m : Map) (sound : Sound m) (r : ℕ) (ro
             held.searching u a fresh (ap (λ (x : ℕ). (route_at s.routes x).distance) is ∙ near.cost) nearest
             (now_listed u ∙ or_left (eqb u u) (listed s.nodes s.settled u) (eq-eqb u u refl))
             (λ w n. now_listed w ∙ ap (λ (b : Bool). b || listed s.nodes s.settled w) (ne_eqb u w (λ e. n (sym e))))
-            same_costs same_parents (λ v n. ap (λ (x : Route). x.hop) (elsewhere v n)) (ap (λ (x : Route). x.hop) at_u) changed;
-        queued = offered.queued;
+            same_costs same_parents (λ v n. ap (λ (x : Route). x.hop) (elsewhere v n)) (ap (λ (x : Route). x.hop) at_u) offered.routes;
         order = omega (arith, settled_is, offered.reached, same, near.low, there);
-        mirrored = offered.mirrored;
         long = offered.sized ∙ ap length routes ∙ length-set s.routes (u - 1) (hopped r u s.routes) ∙ held.long;
       }
 
       pub fewer : 64 - after.settled < 64 - s.settled
-      fewer = omega (arith, settled_is, near.low, there, queue_few (reached_by s.routes) s.nodes s.reached held.queued)
+      fewer = omega (arith, settled_is, near.low, there, queue_few (reached_by s.routes) s.nodes s.reached s.queued)

@@ -1,5 +1,5 @@
 -- The list of reached nodes that a search goes by. Assumes nothing.
-use Rattle.std.specs.Prelude.{◌≡◌, ℕ, zero, suc, ◌-◌, ◌<◌, ◌≤◌, Bool, true, false, ◌||◌, List, is_some, Some, None, Option, ◌==◌, ◌≢◌, slice_index}
+use Rattle.std.specs.Prelude.{◌≡◌, ℕ, zero, suc, ◌-◌, ◌<◌, ◌≤◌, Bool, true, false, ◌||◌, List, is_some, Some, Option, ◌==◌, ◌≢◌, slice_index}
 use Rattle.spf.specs.declared.route.Route.{Route}
 use Rattle.spf.specs.Reckoning.{route_at}
 use Rattle.metric.specs.Meaning.{Meaning, Cost}
@@ -13,6 +13,11 @@ alone c = record { distance = Some c; parent = 0; hop = 0 }
 abbrev pub reaches : Route → Bool
 reaches route = is_some route.distance
 
+-- v is among the first n of the list.
+abbrev pub listed : List ℕ → ℕ → ℕ → Bool
+listed nodes zero v = false
+listed nodes (suc n) v = slice_index nodes n == v || listed nodes n v
+
 -- The list names exactly the nodes from 1 to 64 that pass, each once, at its first `reached` places.
 pub record Queued (passes : ℕ → Bool) (nodes : List ℕ) (reached : ℕ) : Type 0 where
   pub few : reached ≤ passing passes 64
@@ -20,16 +25,11 @@ pub record Queued (passes : ℕ → Bool) (nodes : List ℕ) (reached : ℕ) : T
   pub low : (i : ℕ) → i < reached → 1 ≤ slice_index nodes i
   pub high : (i : ℕ) → i < reached → slice_index nodes i ≤ 64
   pub known : (i : ℕ) → i < reached → passes (slice_index nodes i) ≡ true
-  pub every : (v : ℕ) → 1 ≤ v → v ≤ 64 → passes v ≡ true → (i : ℕ) × (i < reached) × (slice_index nodes i ≡ v)
+  pub every : (v : ℕ) → 1 ≤ v → v ≤ 64 → passes v ≡ true → listed nodes reached v ≡ true
 
 -- Whether a tree reaches a node.
 abbrev pub reached_by : List Route → ℕ → Bool
 reached_by routes v = reaches (route_at routes v)
-
--- v is among the first n of the list.
-abbrev pub listed : List ℕ → ℕ → ℕ → Bool
-listed nodes zero v = false
-listed nodes (suc n) v = slice_index nodes n == v || listed nodes n v
 
 -- The cost of the node at a place of the list.
 abbrev pub cost_at : List Route → List ℕ → ℕ → Option ℕ
@@ -46,16 +46,11 @@ pub record Nearest (k : Meaning) (routes : List Route) (nodes : List ℕ) (from 
 abbrev pub Costs : Meaning → List Route → Type 0
 Costs k routes = (v c : ℕ) → (route_at routes v).distance ≡ Some c → Cost k c
 
--- The nodes at two places of the list have changed over, and all others are where they were.
-abbrev pub ChangedOver : List ℕ → List ℕ → ℕ → ℕ → Type 0
-ChangedOver nodes nodes' a b =
-    (slice_index nodes' a ≡ slice_index nodes b) × (slice_index nodes' b ≡ slice_index nodes a) × ((i : ℕ) → (i ≢ a) → (i ≢ b) → slice_index nodes' i ≡ slice_index nodes i)
-
 -- The costs are those of the routes, for every node that is reached.
 abbrev pub Mirrors : List Route → List ℕ → Type 0
 Mirrors routes costs = (v c : ℕ) → 1 ≤ v → v ≤ 64 → (route_at routes v).distance ≡ Some c → slice_index costs (v - 1) ≡ c
 
--- A cost, 0 where there is none.
-abbrev pub or_none : Option ℕ → ℕ
-or_none None = 0
-or_none (Some c) = c
+-- The nodes at two places of the list have changed over, and all others are where they were.
+abbrev pub ChangedOver : List ℕ → List ℕ → ℕ → ℕ → Type 0
+ChangedOver nodes nodes' a b =
+    (slice_index nodes' a ≡ slice_index nodes b) × (slice_index nodes' b ≡ slice_index nodes a) × ((i : ℕ) → (i ≢ a) → (i ≢ b) → slice_index nodes' i ≡ slice_index nodes i)

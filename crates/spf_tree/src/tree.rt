@@ -7,13 +7,15 @@ ghost use Rattle.spf.specs.Routes.{IsRoute};
 ghost use Rattle.spf_laws.specs.Searches.{Partial};
 ghost use Rattle.spf_tree.specs.Trees.{tree_answer, AllRoutes};
 
-use crate::begin::{begin, root_alone};
+use crate::begin::root_alone;
+use crate::search::Search;
+use crate::settle::Settled;
 use metric::Metric;
 use spf::map::Map;
 use spf::route::Tree;
 
 // Finds the routes from a table that holds costs of paths: settles the nearest node that waits and offers its lines, until
-// no node waits.
+// no node waits. Metric, map and root are handed on: as fields of the search, each of its steps would have to promise that it leaves them alone.
 fn search<M: Metric>(metric: &M, map: &Map, root: u8, table: Tree) -> Tree
     requires rooted { Node (map_of map.now) root }
     requires partial { Partial (M.means metric.now) (map_of map.now) root (route_at table) }
@@ -21,12 +23,10 @@ fn search<M: Metric>(metric: &M, map: &Map, root: u8, table: Tree) -> Tree
 {
     metric.laws();
     map.sound();
-    let mut search = begin(table);
-    while search.settled < search.reached {
-        let place = search.nearest(metric);
-        let cost = search.cost_at(place);
+    let mut search = Search::begin(table);
+    while let Some((place, cost)) = search.nearest(metric) {
         let node = search.settle(root, place);
-        search.relax(metric, map.count(), node, cost, map.lines_from(node));
+        search.relax(metric, map, Settled { node, cost });
     }
     search.routes
 }

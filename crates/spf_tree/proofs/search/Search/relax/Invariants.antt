@@ -3,4 +3,4 @@ use Rattle.spf_tree.specs.Steps.{Offered, offered_all}
 use Rattle.spf_tree.proofs.search.Search.relax.Given as goal
 
 abbrev pub invariant-loop-line : goal.invariant-loop-line
-invariant-loop-line g l = Offered (offered_all (g.M.Metric.means l.metric) l.from l.cost (take l.line-index l.lines)) l.initial.self l.self
+invariant-loop-line g l = Offered (offered_all (g.M.Metric.means l.metric) l.settled.node l.settled.cost (take l.line-index l.line-items)) l.initial.self l.self
