@@ -2,29 +2,10 @@
 use forwarding::{End, Trees, forward};
 use spf::route::{Route, Tree};
 
-fn route(distance: u64, parent: u8, hop: u8) -> Route {
-    Route {
-        distance: Some(distance),
-        parent,
-        hop,
-    }
-}
-
-fn nowhere() -> Route {
-    Route {
-        distance: None,
-        parent: 0,
-        hop: 0,
-    }
-}
-
 // The tree of a node among four.
-fn tree(rows: [Route; 4]) -> Tree {
-    let mut tree = [nowhere(); 64];
-    tree[0] = rows[0];
-    tree[1] = rows[1];
-    tree[2] = rows[2];
-    tree[3] = rows[3];
+fn tree(routes: [Route; 4]) -> Tree {
+    let mut tree = [Route::default(); 64];
+    tree[..4].copy_from_slice(&routes);
     tree
 }
 
@@ -32,34 +13,39 @@ fn tree(rows: [Route; 4]) -> Tree {
 fn four() -> [Tree; 4] {
     [
         tree([
-            route(0, 0, 0),
-            route(200, 1, 2),
-            route(500, 1, 3),
-            route(650, 2, 2),
+            Route::new(0, 0, 0),
+            Route::new(200, 1, 2),
+            Route::new(500, 1, 3),
+            Route::new(650, 2, 2),
         ]),
         tree([
-            route(200, 2, 1),
-            route(0, 0, 0),
-            route(300, 2, 3),
-            route(450, 2, 4),
+            Route::new(200, 2, 1),
+            Route::new(0, 0, 0),
+            Route::new(300, 2, 3),
+            Route::new(450, 2, 4),
         ]),
         tree([
-            route(500, 3, 1),
-            route(700, 1, 1),
-            route(0, 0, 0),
-            route(150, 3, 4),
+            Route::new(500, 3, 1),
+            Route::new(700, 1, 1),
+            Route::new(0, 0, 0),
+            Route::new(150, 3, 4),
         ]),
-        tree([nowhere(), nowhere(), nowhere(), route(0, 0, 0)]),
+        tree([
+            Route::default(),
+            Route::default(),
+            Route::default(),
+            Route::new(0, 0, 0),
+        ]),
     ]
 }
 
 // Nodes 1 and 2 each take the other for the next hop to 3.
 fn ring() -> [Tree; 3] {
-    let lost = [nowhere(); 64];
+    let lost = [Route::default(); 64];
     let mut one = lost;
-    one[2] = route(3, 2, 2);
+    one[2] = Route::new(3, 2, 2);
     let mut two = lost;
-    two[2] = route(2, 1, 1);
+    two[2] = Route::new(2, 1, 1);
     [one, two, lost]
 }
 

@@ -7,61 +7,42 @@ use spf::route::Route;
 use spf_tree::shortest_paths;
 use wire::lines::Line;
 
-fn row(lines: &[(u8, u16)]) -> Row {
+// A push for each line, as in every test that makes rows: where the lines come from is its own.
+fn row(lines: &[(u8, u16)]) -> Option<Row> {
     let mut row = Row::new();
     for (neighbour, figure) in lines {
         row.push(Line {
             neighbour: *neighbour,
             figure: *figure,
-        });
+        })
+        .ok()?;
     }
-    row
+    Some(row)
 }
 
 // Lines 1 to 2 and 2 to 4 as given, 1 to 3 at 500, 2 to 1 at 200, 2 to 3 at 300, 3 to 1 at 500 and 3 to 4 at 150; none leaves 4.
 fn four(to_two: u16, to_four: u16) -> Option<Map> {
     let mut map = Map::new(4)?;
-    map.replace(1, &row(&[(2, to_two), (3, 500)])).ok()?;
-    map.replace(2, &row(&[(1, 200), (3, 300), (4, to_four)]))
+    map.replace(1, &row(&[(2, to_two), (3, 500)])?).ok()?;
+    map.replace(2, &row(&[(1, 200), (3, 300), (4, to_four)])?)
         .ok()?;
-    map.replace(3, &row(&[(1, 500), (4, 150)])).ok()?;
+    map.replace(3, &row(&[(1, 500), (4, 150)])?).ok()?;
     Some(map)
-}
-
-fn route(distance: u64, parent: u8, hop: u8) -> Route {
-    Route {
-        distance: Some(distance),
-        parent,
-        hop,
-    }
-}
-
-fn nowhere() -> Route {
-    Route {
-        distance: None,
-        parent: 0,
-        hop: 0,
-    }
 }
 
 // Whether the tree of a root has these routes to the four nodes; none if there is no tree.
 fn routes_are<M: Metric>(metric: &M, to_four: u16, root: u8, routes: [Route; 4]) -> Option<bool> {
     let tree = shortest_paths(metric, &four(200, to_four)?, root)?;
-    for place in 0..4 {
-        if !tree[place].same(routes[place]) {
-            return Some(false);
-        }
-    }
-    Some(tree[4].same(nowhere()))
+    Some(tree[..4] == routes[..] && tree[4] == Route::default())
 }
 
 #[test]
 fn delays_of_four(rt: HostRuntime) {
     let one = [
-        route(0, 0, 0),
-        route(200, 1, 2),
-        route(500, 1, 3),
-        route(650, 2, 2),
+        Route::new(0, 0, 0),
+        Route::new(200, 1, 2),
+        Route::new(500, 1, 3),
+        Route::new(650, 2, 2),
     ];
     assert_eq!(rt; routes_are(&Delay, 450, 1, one), Some(true));
 }
@@ -69,17 +50,22 @@ fn delays_of_four(rt: HostRuntime) {
 // No line leaves node 4.
 #[test]
 fn delays_of_the_last(rt: HostRuntime) {
-    let four = [nowhere(), nowhere(), nowhere(), route(0, 0, 0)];
+    let four = [
+        Route::default(),
+        Route::default(),
+        Route::default(),
+        Route::new(0, 0, 0),
+    ];
     assert_eq!(rt; routes_are(&Delay, 450, 4, four), Some(true));
 }
 
 #[test]
 fn fewest_lines_of_four(rt: HostRuntime) {
     let one = [
-        route(0, 0, 0),
-        route(65_736, 1, 2),
-        route(66_036, 1, 3),
-        route(131_522, 2, 2),
+        Route::new(0, 0, 0),
+        Route::new(65_736, 1, 2),
+        Route::new(66_036, 1, 3),
+        Route::new(131_522, 2, 2),
     ];
     assert_eq!(rt; routes_are(&FewestLines, 450, 1, one), Some(true));
 }
@@ -88,10 +74,10 @@ fn fewest_lines_of_four(rt: HostRuntime) {
 #[test]
 fn a_slower_line_of_four(rt: HostRuntime) {
     let one = [
-        route(0, 0, 0),
-        route(200, 1, 2),
-        route(500, 1, 3),
-        route(650, 3, 3),
+        Route::new(0, 0, 0),
+        Route::new(200, 1, 2),
+        Route::new(500, 1, 3),
+        Route::new(650, 3, 3),
     ];
     assert_eq!(rt; routes_are(&Delay, 600, 1, one), Some(true));
 }

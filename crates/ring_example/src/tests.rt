@@ -27,63 +27,55 @@ fn lines_between(from: u8, to: u8) -> u8
     (ahead(from, to) + 7) / 8
 }
 
-// The lowest-numbered node one line before this one; 0 for the root.
+// The lowest-numbered node one line before this one; 0 for the root. It and the hop are reckoned from the ring alone: a test that
+// shared them with others would lean on what it tests.
 fn parent(root: u8, node: u8) -> u8 {
-    for from in 1..=64 {
-        if joined(from, node) && lines_between(root, from) + 1 == lines_between(root, node) {
-            return from;
-        }
-    }
-    0
+    (1..=64)
+        .find(|from| {
+            joined(*from, node) && lines_between(root, *from) + 1 == lines_between(root, node)
+        })
+        .unwrap_or(0)
 }
 
 // The next hop to a node, from that to its parent.
 fn hop(tree: &Tree, root: u8, node: u8, parent: u8) -> u8 {
-    if parent == 0 || parent > 64 {
-        return 0;
-    }
     if parent == root {
         return node;
     }
-    tree[usize::from(parent) - 1].hop
+    tree.get(usize::from(parent).wrapping_sub(1))
+        .map_or(0, |route| route.hop)
 }
 
-fn row(node: u8) -> Row {
+// A push for each line: a row has no other way in, and the lines are the ring's own.
+fn row(node: u8) -> Option<Row> {
     let mut row = Row::new();
     for neighbour in 1..=64 {
         if joined(node, neighbour) {
             row.push(Line {
                 neighbour,
                 figure: 10,
-            });
+            })
+            .ok()?;
         }
     }
-    row
+    Some(row)
 }
 
 fn ring() -> Option<Map> {
     let mut map = Map::new(64)?;
     for node in 1..=64 {
-        map.replace(node, &row(node)).ok()?;
+        map.replace(node, &row(node)?).ok()?;
     }
     Some(map)
 }
 
 // Whether each route of the tree of a root is as known.
 fn goes_round(tree: &Tree, root: u8) -> bool {
-    for node in 1..=64u8 {
-        let route = tree[usize::from(node) - 1];
+    (1..=64).zip(tree).all(|(node, route)| {
         let parent = parent(root, node);
-        let known = Route {
-            distance: Some(u64::from(lines_between(root, node)) * 10),
-            parent,
-            hop: hop(tree, root, node, parent),
-        };
-        if !route.same(known) {
-            return false;
-        }
-    }
-    true
+        let distance = u64::from(lines_between(root, node)) * 10;
+        *route == Route::new(distance, parent, hop(tree, root, node, parent))
+    })
 }
 
 fn all_go_round() -> Option<bool> {

@@ -1,30 +1,7 @@
 // Distances, parents and next hops as the rules word them.
-use crate::paths::{Distances, place};
+use crate::case::{Case, Distances, place};
 use metric::Metric;
-use spf::map::Map;
 use spf::route::Tree;
-
-// Whether the distance of a node, with the figure of its line to another added, is the distance of that one.
-fn leads<M: Metric>(metric: &M, map: &Map, distances: &Distances, from: u8, to: u8) -> bool {
-    match (
-        distances[place(from)],
-        map.figure(from, to),
-        distances[place(to)],
-    ) {
-        (Some(near), Some(figure), Some(far)) => metric.add(near, figure) == far,
-        _ => false,
-    }
-}
-
-// The lowest-numbered node that leads to this one; 0 for none, and for the root.
-fn parent<M: Metric>(metric: &M, map: &Map, root: u8, distances: &Distances, node: u8) -> u8 {
-    for from in 1..=map.count() {
-        if node != root && leads(metric, map, distances, from, node) {
-            return from;
-        }
-    }
-    0
-}
 
 // The first node after the root along the tree's parents; 0 where they do not come to the root.
 fn hop(tree: &Tree, root: u8, node: u8) -> u8 {
@@ -42,22 +19,38 @@ fn hop(tree: &Tree, root: u8, node: u8) -> u8 {
     0
 }
 
-// Whether each route of the tree is as these least costs have it.
-pub(crate) fn follows<M: Metric>(
-    metric: &M,
-    map: &Map,
-    root: u8,
-    tree: &Tree,
-    least: &Distances,
-) -> bool {
-    for node in 1..=64 {
-        let route = tree[place(node)];
-        if route.distance != least[place(node)]
-            || route.parent != parent(metric, map, root, least, node)
-            || route.hop != hop(tree, root, node)
-        {
-            return false;
-        }
+impl<M: Metric> Case<'_, M> {
+    // The distance of a node with the figure of its line to another added.
+    fn cost_by(&self, least: &Distances, from: u8, to: u8) -> Option<u64> {
+        let near = least[place(from)]?;
+        Some(self.metric.add(near, self.map.figure(from, to)?))
     }
-    true
+
+    // Whether that is the distance of the other.
+    fn leads(&self, least: &Distances, from: u8, to: u8) -> bool {
+        let cost = self.cost_by(least, from, to);
+        cost.is_some() && cost == least[place(to)]
+    }
+
+    // The lowest-numbered node that leads to this one; 0 for none, and for the root.
+    fn parent(&self, least: &Distances, node: u8) -> u8 {
+        if node == self.root {
+            return 0;
+        }
+        let mut nodes = 1..=self.map.count();
+        nodes
+            .find(|from| self.leads(least, *from, node))
+            .unwrap_or(0)
+    }
+
+    // Whether each route of the tree is as the least costs of all paths have it.
+    pub(crate) fn agrees(&self, tree: &Tree) -> bool {
+        let least = self.least_costs();
+        (1..=64).all(|node| {
+            let route = tree[place(node)];
+            route.distance == least[place(node)]
+                && route.parent == self.parent(&least, node)
+                && route.hop == hop(tree, self.root, node)
+        })
+    }
 }

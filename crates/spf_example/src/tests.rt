@@ -1,37 +1,23 @@
 // Small random maps, for the metrics of the node and for a foreign one.
-use crate::paths::least_costs;
-use crate::random::{Random, small_map};
-use crate::rules::follows;
+use crate::case::Case;
+use crate::maps::small_map;
 use metric::{Delay, FewestLines, Metric};
 use metric_example::{Floor, PricedDelay};
+use random::Random;
 use spf::map::Map;
 use spf_tree::shortest_paths;
 
 // Whether the tree of each root has the least costs of all paths, and the parents and next hops that follow from them.
 fn agrees<M: Metric>(metric: &M, map: &Map) -> bool {
-    for root in 1..=map.count() {
-        let Some(tree) = shortest_paths(metric, map, root) else {
-            return false;
-        };
-        let least = least_costs(metric, map, root);
-        if !follows(metric, map, root, &tree, &least) {
-            return false;
-        }
-    }
-    true
+    (1..=map.count()).all(|root| {
+        let case = Case { metric, map, root };
+        shortest_paths(metric, map, root).is_some_and(|tree| case.agrees(&tree))
+    })
 }
 
 fn all_agree<M: Metric>(metric: &M) -> bool {
     let mut random = Random::new();
-    for _ in 0..2000 {
-        let Some(map) = small_map(&mut random) else {
-            return false;
-        };
-        if !agrees(metric, &map) {
-            return false;
-        }
-    }
-    true
+    (0..2000).all(|_| small_map(&mut random).is_some_and(|map| agrees(metric, &map)))
 }
 
 #[test]
