@@ -1,5 +1,6 @@
 -- The database by what it holds, how it begins and ages, and what is read from it.
-use Rattle.std.specs.Prelude.{ℕ, ◌-◌, cond, ◌&&◌, List, map, replicate, Some, None, Ok, Err, count_by, Option, Result, nat_le, slice_index_or, slice_set}
+use Rattle.std.specs.Prelude.{ℕ, ◌-◌, if◌then◌else◌, ◌&&◌, List, map, replicate, Some, None, Ok, Err, count_by, Option, Result, nat_le, slice_index_or, slice_set, codes, ◌++◌}
+use Rattle.std.specs.Fmt.{decimal}
 use Rattle.rows.specs.declared.row.Row.{Row}
 use Rattle.rows.specs.Rows.{no_row}
 use Rattle.entries.specs.declared.entry.Entry.{Entry}
@@ -23,6 +24,10 @@ abbrev pub start_number : StartFault → ℕ
 start_number fault.Count = 1
 start_number fault.Root = 2
 
+-- What a refusal prints: its number.
+abbrev pub start_text : StartFault → List ℕ
+start_text f = codes "refused " ++ decimal (start_number f)
+
 -- A fresh database: nothing was heard of any node.
 abbrev pub fresh_state : ℕ → ℕ → State
 fresh_state count root = record { count = count; root = root; entries = replicate 64 fresh }
@@ -30,7 +35,7 @@ fresh_state count root = record { count = count; root = root; entries = replicat
 -- Starting asks whether the count lies in 1 to 64, then whether the node's number lies in 1 to the count.
 abbrev pub starting : ℕ → ℕ → Result State StartFault
 starting count root =
-    cond (nat_le 1 count && nat_le count 64) (cond (nat_le 1 root && nat_le root count) (Ok (fresh_state count root)) (Err fault.Root)) (Err fault.Count)
+    if nat_le 1 count && nat_le count 64 then (if nat_le 1 root && nat_le root count then Ok (fresh_state count root) else Err fault.Root) else Err fault.Count
 
 -- The answer of a start, by what the database holds.
 abbrev pub shown_start : Result Database StartFault → Result State StartFault
@@ -43,15 +48,15 @@ held s node = slice_index_or s.entries (node - 1) missing
 
 -- The entry of a node; none for a number that is not in 1 to the count.
 abbrev pub entry_of : State → ℕ → Option Entry
-entry_of s node = cond (nat_le 1 node && nat_le node s.count) (Some (held s node)) None
+entry_of s node = if nat_le 1 node && nat_le node s.count then Some (held s node) else None
 
 -- The age of a node's report; 0 for a number that is not in 1 to the count.
 abbrev pub age_of : State → ℕ → ℕ
-age_of s node = cond (nat_le 1 node && nat_le node s.count) (held s node).age 0
+age_of s node = if nat_le 1 node && nat_le node s.count then (held s node).age else 0
 
 -- The lines that leave a node; none for a number that is not in 1 to the count.
 abbrev pub row_of : State → ℕ → Row
-row_of s node = cond (nat_le 1 node && nat_le node s.count) (held s node).row no_row
+row_of s node = if nat_le 1 node && nat_le node s.count then (held s node).row else no_row
 
 -- The state with another entry for one node, and everything else as it was.
 abbrev pub entered : State → ℕ → Entry → State

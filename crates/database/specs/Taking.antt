@@ -1,5 +1,5 @@
 -- What taking a report answers, and what it leaves.
-use Rattle.std.specs.Prelude.{ℕ, ◌+◌, ◌-◌, cond, List, [], ◌∷◌, ◌++◌, length, replicate, Ok, Err, Result, ◌==◌, nat_le}
+use Rattle.std.specs.Prelude.{ℕ, ◌+◌, ◌-◌, if◌then◌else◌, List, [], ◌∷◌, ◌++◌, length, replicate, Ok, Err, Result, ◌==◌, nat_le}
 use Rattle.wire.specs.declared.fault.ReadFault.{ReadFault}
 use Rattle.wire.specs.declared.lines.Line.{Line}
 use Rattle.wire.specs.Reports.{Content, read_report}
@@ -18,11 +18,11 @@ use Rattle.database.specs.States.{State, held, entered}
 -- Is each neighbour within the count? The first that is not decides, at its byte; a line takes three.
 abbrev pub lines_within : ℕ → ℕ → List Line → Result (Unit {0}) TakeFault
 lines_within count p [] = Ok tt
-lines_within count p (x ∷ xs) = cond (nat_le x.neighbour count) (lines_within count (p + 3) xs) (Err (fault.Neighbour p))
+lines_within count p (x ∷ xs) = if nat_le x.neighbour count then lines_within count (p + 3) xs else Err (fault.Neighbour p)
 
 -- Is the origin within the count, and then each neighbour? The pairs of a report begin at byte 15.
 abbrev pub within : ℕ → Content → Result (Unit {0}) TakeFault
-within count q = cond (nat_le q.header.origin count) (lines_within count 15 q.lines) (Err fault.Origin)
+within count q = if nat_le q.header.origin count then lines_within count 15 q.lines else Err fault.Origin
 
 -- What was asked decides whether the report comes.
 abbrev pub passed : Result (Unit {0}) TakeFault → Content → Result Content TakeFault

@@ -3,6 +3,7 @@ ghost use Rattle.std.specs.Prelude.{◌≡◌};
 ghost use Rattle.database.specs.States.{state, aged_state, lapses};
 
 use crate::types::Database;
+use entries::entry::Entry;
 
 impl Database {
     // A period passes: every report in force, the own one too, has a period less to live. Answers how many are out of force now;
@@ -11,16 +12,8 @@ impl Database {
         ensures answer { result ≡ lapses (state self.old) }
         ensures left { state self.new ≡ aged_state (state self.old) }
     {
-        let mut entries = self.entries;
-        let mut lapsed = 0;
-        for place in 0..64 {
-            let held = entries[place];
-            if held.age == 1 {
-                lapsed += 1;
-            }
-            entries[place] = held.aged();
-        }
-        self.entries = entries;
-        lapsed
+        let lapsed = self.entries.iter().filter(|entry| entry.age == 1).count();
+        self.entries = self.entries.map(Entry::aged);
+        lapsed as u8
     }
 }

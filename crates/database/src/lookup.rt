@@ -6,6 +6,7 @@ ghost use Rattle.database.specs.States.{state, entry_of, age_of, row_of};
 
 use crate::types::Database;
 use entries::entry::Entry;
+use entries::places::place;
 use rows::Row;
 
 impl Database {
@@ -30,20 +31,16 @@ impl Database {
         ensures value { result ≡ entry_of (state self.now) origin }
         ensures sound { IfSome result (λ e. sound_entry (state self.now).count origin e ≡ true) }
     {
-        if origin < 1 || origin > self.count {
-            return None;
-        }
-        Some(self.entries[origin as usize - 1])
+        self.entries[..usize::from(self.count)]
+            .get(place(origin))
+            .copied()
     }
 
     // The age of a node's report; 0 for a number that is not in 1 to the count.
     pub fn age(&self, origin: u8) -> u8
         ensures { result ≡ age_of (state self.now) origin }
     {
-        match self.entry(origin) {
-            Some(entry) => entry.age,
-            None => 0,
-        }
+        self.entry(origin).map_or(0, |entry| entry.age)
     }
 
     // The lines that leave a node, which are allowed; none for a number that is not in 1 to the count.
@@ -51,9 +48,6 @@ impl Database {
         ensures value { result ≡ row_of (state self.now) node }
         ensures allowed { allowed_row (state self.now).count node result ≡ true }
     {
-        match self.entry(node) {
-            Some(entry) => entry.row,
-            None => Row::new(),
-        }
+        self.entry(node).map_or_else(Row::new, |entry| entry.row)
     }
 }

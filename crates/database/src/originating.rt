@@ -5,6 +5,7 @@ ghost use Rattle.database.specs.Originating.{originate_answer, originate_state};
 
 use crate::types::Database;
 use entries::entry::Entry;
+use entries::places::place;
 use rows::Row;
 
 // The age of a report as its origin makes it.
@@ -20,7 +21,7 @@ impl Database {
         if !row.allowed(self.count, self.root) {
             return None;
         }
-        let place = self.root as usize - 1;
+        let place = place(self.root);
         let serial = (self.entries[place].serial + 1) % 64;
         self.entries[place] = Entry {
             serial,

@@ -1,55 +1,72 @@
 // Taking a report.
-ghost use Rattle.std.specs.Prelude.{◌≡◌, ◌≤◌, length, Ok};
-ghost use Rattle.wire.specs.Reports.{Allowed, content};
+ghost use Rattle.std.specs.Prelude.{◌≡◌, ◌≤◌, length, Ok, Err, MatchResult};
+ghost use Rattle.wire.specs.Reports.{Allowed, content, read_report};
 ghost use Rattle.database.specs.States.{state};
 ghost use Rattle.database.specs.Taking.{within, row_with, heard_entry, verdict_on, settled, take_answer, take_state};
 
 use crate::types::Database;
 use entries::entry::Entry;
+use entries::places::place;
 use entries::verdicts::{TakeFault, Taken, Taking};
 use rows::Row;
-use wire::report::Report;
+use wire::fault::ReadFault;
+use wire::report::{Header, Report};
 
-// Asks whether the origin is within the count, and then each neighbour. The pairs of a report begin at byte 15.
-fn check_count(count: u8, report: &Report) -> Result<(), TakeFault>
-    requires { length (content report.now).lines ≤ 8 }
-    ensures { result ≡ within count (content report.now) }
-{
-    if report.header.origin > count {
-        return Err(TakeFault::Origin);
+// A report that was read: it says what a report may say.
+#[derive(Clone, Copy)]
+struct Heard<'a> {
+    report: Report<'a>,
+    ghost allowed: { ∥ Allowed (content report) ∥₁ },
+}
+
+impl<'a> Heard<'a> {
+    // The report that the bytes hold; else the first question that is answered no.
+    fn read(bytes: &'a [u8]) -> Result<Heard<'a>, ReadFault>
+        ensures { MatchResult result (λ heard. read_report bytes.now ≡ Ok (content heard.report)) (λ fault. read_report bytes.now ≡ Err fault) }
+    {
+        let report = Report::read(bytes)?;
+        Ok(Heard { report })
     }
-    let mut place = 15;
-    for line in report.lines() {
-        if line.neighbour > count {
-            return Err(TakeFault::Neighbour { place });
+}
+
+impl Heard<'_> {
+    // Asks whether the origin is within the count, and then each neighbour. The pairs of a report begin at byte 15, and take three
+    // bytes each.
+    fn within(&self, count: u8) -> Result<(), TakeFault>
+        ensures { result ≡ within count (content self.now.report) }
+    {
+        if self.report.header.origin > count {
+            return Err(TakeFault::Origin);
         }
-        place += 3;
+        match self.report.lines().position(|line| line.neighbour > count) {
+            Some(line) => Err(TakeFault::Neighbour {
+                place: 15 + 3 * line,
+            }),
+            None => Ok(()),
+        }
     }
-    Ok(())
-}
 
-// The lines of a report as a row.
-fn row_of(report: &Report) -> Row
-    requires { length (content report.now).lines ≤ 8 }
-    ensures { result ≡ row_with (content report.now).lines }
-{
-    let mut row = Row::new();
-    for line in report.lines() {
-        row.lines[row.used as usize] = line;
-        row.used += 1;
+    // The lines as a row.
+    fn row(&self) -> Row
+        ensures { result ≡ row_with (content self.now.report).lines }
+    {
+        let mut row = Row::new();
+        for line in self.report.lines() {
+            row.push(line).unwrap();
+        }
+        row
     }
-    row
-}
 
-// The entry that a report makes.
-fn entry_of(report: &Report) -> Entry
-    requires { length (content report.now).lines ≤ 8 }
-    ensures { result ≡ heard_entry (content report.now) }
-{
-    Entry {
-        serial: report.header.serial,
-        age: report.header.age,
-        row: row_of(report),
+    // The entry that the report makes.
+    fn entry(&self) -> Entry
+        ensures { result ≡ heard_entry (content self.now.report) }
+    {
+        let Header { serial, age, .. } = self.report.header;
+        Entry {
+            serial,
+            age,
+            row: self.row(),
+        }
     }
 }
 
@@ -60,23 +77,23 @@ impl Database {
         ensures answer { result ≡ take_answer (state self.old) bytes.now }
         ensures left { state self.new ≡ take_state (state self.old) bytes.now }
     {
-        let report = Report::read(bytes)?;
-        check_count(self.count, &report)?;
-        Ok(self.settle(&report))
+        let heard = Heard::read(bytes)?;
+        heard.within(self.count)?;
+        Ok(self.settle(&heard))
     }
 
-    // What a report that was not refused does.
-    fn settle(&mut self, report: &Report) -> Taking
-        requires { (Allowed (content report.now)) × (Ok tt ≡ within self.old.count (content report.now)) }
-        ensures answer { (result.header ≡ report.now.header) × (result.taken ≡ verdict_on (state self.old) (content report.now)) }
-        ensures left { state self.new ≡ settled (state self.old) (content report.now) result.taken }
+    // What a report within the count does.
+    fn settle(&mut self, heard: &Heard) -> Taking
+        requires { Ok tt ≡ within self.old.count (content heard.now.report) }
+        ensures answer { (result.header ≡ heard.now.report.header) × (result.taken ≡ verdict_on (state self.old) (content heard.now.report)) }
+        ensures left { state self.new ≡ settled (state self.old) (content heard.now.report) result.taken }
     {
-        let header = report.header;
-        let place = header.origin as usize - 1;
+        let header = heard.report.header;
+        let place = place(header.origin);
         let freshness = self.entries[place].compare(header.serial);
         let taken = freshness.verdict(header.origin == self.root);
-        if let Taken::Accepted = taken {
-            self.entries[place] = entry_of(report);
+        if taken == Taken::Accepted {
+            self.entries[place] = heard.entry();
         }
         Taking { header, taken }
     }

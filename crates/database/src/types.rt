@@ -1,4 +1,4 @@
-// The database of one node: the entries of all nodes.
+// The database of one node: the entries of all nodes. Its methods stand in files of their own, since what they cite names it.
 ghost use Rattle.std.specs.Prelude.{◌≡◌, ℕ, ◌+◌, ◌<◌, ◌≤◌, true, length, slice_index_or};
 ghost use Rattle.entries.specs.Entries.{sound_entry, missing};
 
@@ -6,7 +6,7 @@ use entries::entry::Entry;
 
 // The network has `count` nodes, and `root` is the node that keeps the database. The entry of node n stands at n - 1, and every
 // entry is sound: it may be that of its node in a network of so many.
-#[derive(Drop)]
+#[derive(Debug, Drop, PartialEq, Eq)]
 pub struct Database {
     pub(crate) count: u8,
     pub(crate) root: u8,

@@ -1,7 +1,9 @@
 -- Reports taken one after the other, seen from one origin.
 use Rattle.std.proofs.Common.{◌≡◌, ℕ, ◌≤◌, false, List, [], ◌∷◌, length, Ok, sym, refl, ap, ◌∙◌, subst, inl, inr, arith}
-use Rattle.std.proofs.lemmas.Bool.{cases_Bool, or_left, eq-eqb, both_ways}
-use Rattle.std.specs.List.{AllByRecursion}
+use Rattle.std.proofs.lemmas.Bool.{cases_Bool}
+use Rattle.std.proofs.lemmas.Bool.Decides.{nat_tests}
+use Rattle.std.proofs.lemmas.List.Elements.{All-nil, All-head, All-tail}
+use Rattle.std.specs.List.{All}
 use Rattle.wire.specs.Reports.{Content}
 use Rattle.entries.specs.declared.entry.Entry.{Entry}
 use Rattle.entries.specs.Freshness.{ahead, newer}
@@ -15,7 +17,7 @@ use Rattle.database_order.proofs.Bests.{Below, Best, stays, renewed, left}
 
 -- a report on a lapsed entry is newer
 lapsed_newer : (e : Entry) (serial : ℕ) → e.age ≡ 0 → newer e serial ≡ false → ⊥
-lapsed_newer e serial z h = both_ways (newer e serial) h (or_left _ _ (eq-eqb e.age 0 z))
+lapsed_newer e serial z h = grind (arith, nat_tests)
 
 module _ (count root origin first : ℕ) (low : 1 ≤ origin) (other : origin ≡ root → ⊥) where
   -- The state has this count and root, and an entry for the origin.
@@ -36,27 +38,29 @@ module _ (count root origin first : ℕ) (low : 1 ≤ origin) (other : origin �
         | inr is ↦ is
       ]
 
-  pub best : (bs : List (List ℕ)) (s : State) → Of s → (1 ≤ (held s origin).age → ahead (held s origin).serial first ≤ 31) → AllByRecursion (Below count origin first 31) bs
+  pub best : (bs : List (List ℕ)) (s : State) → Of s → (1 ≤ (held s origin).age → ahead (held s origin).serial first ≤ 31) → All (Below count origin first 31) bs
       → Best count origin first (held s origin) bs (held (taken_all s bs) origin)
-  best [] s h fits near = stays refl (λ f. tt) (λ z. tt)
+  best [] s h fits near = stays refl (λ f. All-nil _) (λ z. All-nil _)
   best (b ∷ bs) s h fits near =
+      let head = All-head (Below count origin first 31) b bs near in
+      let tail = All-tail (Below count origin first 31) b bs near in
       elim (step s origin low h.there b) [
         | inl p ↦
             let q = p.0 in
             let is = p.2 in
             let brought : heard count b ≡ Ok q = ap (λ n. heard n b) (sym h.count_is) ∙ p.1.brought in
             let fair = heard_fair count b q brought in
-            let place = near.0 q brought p.1.of in
-            let rest = best bs (take_state s b) (next s b h) (λ f. subst (λ (x : Entry). ahead x.serial first ≤ 31) (sym is) place) near.1 in
+            let place = head q brought p.1.of in
+            let rest = best bs (take_state s b) (next s b h) (λ f. subst (λ (x : Entry). ahead x.serial first ≤ 31) (sym is) place) tail in
             renewed count origin first (held s origin) b bs _ q brought p.1.of fair.age
             (λ f. ahead_newer first q.header.serial (held s origin) f place (fits f) p.1.newer)
             (subst (λ (x : Entry). Best count origin first x bs (held (taken_all (take_state s b) bs) origin)) is rest)
         | inr p ↦
             let is = p.1 in
-            let old = unrenewed s b h fits near.0 p.0 in
-            let rest = best bs (take_state s b) (next s b h) (subst (λ (x : Entry). 1 ≤ x.age → ahead x.serial first ≤ 31) (sym is) fits) near.1 in
+            let old = unrenewed s b h fits head p.0 in
+            let rest = best bs (take_state s b) (next s b h) (subst (λ (x : Entry). 1 ≤ x.age → ahead x.serial first ≤ 31) (sym is) fits) tail in
             left count origin first (held s origin) b bs _
-            (λ f q brought of. behind_older first q.header.serial (held s origin) f (near.0 q brought of) (fits f) (old q brought of))
+            (λ f q brought of. behind_older first q.header.serial (held s origin) f (head q brought of) (fits f) (old q brought of))
             (λ z q brought of. lapsed_newer (held s origin) q.header.serial z (old q brought of))
             (subst (λ (x : Entry). Best count origin first x bs (held (taken_all (take_state s b) bs) origin)) is rest)
       ]

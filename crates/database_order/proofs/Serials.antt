@@ -1,6 +1,7 @@
 -- Serials among 32 consecutive ones are in order.
-use Rattle.std.proofs.Common.{◌≡◌, ℕ, ◌+◌, ◌-◌, ◌%◌, ◌<◌, ◌≤◌, true, false, ◌&&◌, eqb, leb, inl, inr, arith}
-use Rattle.std.proofs.lemmas.Bool.{cases_lt, or_cases, or_parts, and_parts, and_cases, eqb-true, leb-true, leb-false}
+use Rattle.std.proofs.Common.{◌≡◌, ℕ, ◌+◌, ◌-◌, ◌%◌, ◌<◌, ◌≤◌, true, false, inl, inr, arith}
+use Rattle.std.proofs.lemmas.Bool.{cases_lt}
+use Rattle.std.proofs.lemmas.Bool.Decides.{nat_tests}
 use Rattle.entries.specs.declared.entry.Entry.{Entry}
 use Rattle.entries.specs.Freshness.{ahead, newer}
 
@@ -19,22 +20,12 @@ close x y f hx hy hf a b h =
 module _ (first serial : ℕ) (e : Entry) (force : 1 ≤ e.age) (new : ahead serial first ≤ 31) (old : ahead e.serial first ≤ 31) where
   pub ahead_newer : newer e serial ≡ true → ahead e.serial first < ahead serial first
   ahead_newer h =
-      elim (or_cases (eqb e.age 0) (leb 1 (ahead serial e.serial) && leb (ahead serial e.serial) 31) h) [
-        | inl lapsed ↦ absurd (omega (arith, eqb-true e.age 0 lapsed))
-        | inr p ↦
-            let both = and_parts (leb 1 (ahead serial e.serial)) (leb (ahead serial e.serial) 31) p in
-            apart (serial % 64) (e.serial % 64) (first % 64) (omega arith) (omega arith) (omega arith) new old
-            (leb-true 1 (ahead serial e.serial) both.0) (leb-true (ahead serial e.serial) 31 both.1)
-      ]
+      let low : 1 ≤ ahead serial e.serial = grind (arith, nat_tests) in
+      let high : ahead serial e.serial ≤ 31 = grind (arith, nat_tests) in
+      apart (serial % 64) (e.serial % 64) (first % 64) (omega arith) (omega arith) (omega arith) new old low high
 
   pub behind_older : newer e serial ≡ false → ahead serial first ≤ ahead e.serial first
-  behind_older h =
-      let p = (or_parts (eqb e.age 0) (leb 1 (ahead serial e.serial) && leb (ahead serial e.serial) 31) h).1 in
-      close (serial % 64) (e.serial % 64) (first % 64) (omega arith) (omega arith) (omega arith) new old
-      (λ some. elim (and_cases (leb 1 (ahead serial e.serial)) (leb (ahead serial e.serial) 31) p) [
-        | inl none ↦ absurd (omega (arith, leb-false 1 (ahead serial e.serial) none))
-        | inr much ↦ leb-false (ahead serial e.serial) 31 much
-      ])
+  behind_older h = close (serial % 64) (e.serial % 64) (first % 64) (omega arith) (omega arith) (omega arith) new old (λ some. grind (arith, nat_tests))
 
 -- The place among them tells the serial.
 pub same_serial : (first x y : ℕ) → x ≤ 63 → y ≤ 63 → ahead x first ≡ ahead y first → x ≡ y

@@ -1,10 +1,10 @@
 -- The examples of the serial premise, computed.
-use Rattle.std.proofs.Common.{◌≡◌, ℕ, ◌-◌, false, cond, eqb, List, [], ◌∷◌, replicate, Ok, Err, Result, sym, refl, ap, ◌∙◌, inl, inr, arith}
-use Rattle.std.proofs.ByRecursion.{all-has}
+use Rattle.std.proofs.Common.{◌≡◌, ℕ, ◌-◌, false, if◌then◌else◌, ◌==◌, List, [], ◌∷◌, replicate, Ok, Err, Result, sym, refl, ap, ◌∙◌, inl, inr, arith}
+use Rattle.std.proofs.lemmas.List.Elements.{All-from_recursion, All-contains}
 use Rattle.std.proofs.lemmas.List.{get_or-replicate, get_or_past}
 use Rattle.std.proofs.lemmas.List.Sorted.{IsPermutation-to_front}
 use Rattle.std.proofs.lemmas.Bool.{cases_lt}
-use Rattle.std.specs.List.{AllByRecursion}
+use Rattle.std.specs.List.{All}
 use Rattle.wire.specs.declared.lines.Line.{Line}
 use Rattle.wire.specs.Reports.{Content, read_report}
 use Rattle.entries.specs.declared.verdicts.TakeFault.{TakeFault}
@@ -20,29 +20,34 @@ says origin serial x = record { header = record { origin = origin; serial = seri
 
 -- the lines that each serial of the example brings
 by_serial : ℕ → List Line
-by_serial n = cond (eqb n 63) (line 1 200 ∷ []) (cond (eqb n 5) (line 2 200 ∷ []) (line 3 300 ∷ []))
+by_serial n = if n == 63 then line 1 200 ∷ [] else (if n == 5 then line 2 200 ∷ [] else line 3 300 ∷ [])
 
 abbrev Known : Content → Type 0
 Known p = (p.lines ≡ by_serial p.header.serial) × Among 63 p.header.serial
+
+-- Of the reports that the bytes bring, each is known.
+abbrev AllKnown : List ℕ → Type 0
+AllKnown b = (p : Content) → heard 3 b ≡ Ok p → Known p
 
 known : (r : Result Content TakeFault) (q p : Content) → r ≡ Ok q → r ≡ Ok p → Known q → Known p
 known r q p a b k = let same : q ≡ p = cc in rw same at k
 
 refused : (r : Result Content TakeFault) (f : TakeFault) (p : Content) → r ≡ Err f → r ≡ Ok p → Known p
-refused r f p a b = let z : ◌≡◌ {A = ℕ} 0 1 = cc in absurd (omega arith)
+refused r f p a b = absurd (cc)
 
-all_known : AllByRecursion (λ b. (p : Content) → heard 3 b ≡ Ok p → Known p) fitting
+all_known : All AllKnown fitting
 unfolding read_report says by_serial
-all_known = (
-  (λ p h. known _ (says 2 63 (line 1 200)) p refl h (refl, omega arith)),
-  (
-    (λ p h. refused _ _ p refl h),
-    (
-      (λ p h. known _ (says 1 5 (line 2 200)) p refl h (refl, omega arith)),
-      ((λ p h. known _ (says 2 0 (line 3 300)) p refl h (refl, omega arith)), tt),
-    ),
-  ),
-)
+all_known =
+    All-from_recursion AllKnown fitting (
+      (λ p h. known _ (says 2 63 (line 1 200)) p refl h (refl, omega arith)),
+      (
+        (λ p h. refused _ _ p refl h),
+        (
+          (λ p h. known _ (says 1 5 (line 2 200)) p refl h (refl, omega arith)),
+          ((λ p h. known _ (says 2 0 (line 3 300)) p refl h (refl, omega arith)), tt),
+        ),
+      ),
+    )
 
 lapsed : (origin : ℕ) → (held start origin).age ≡ 0
 lapsed origin =
@@ -61,11 +66,11 @@ met =
                 record {
                   first = 63;
                   start = λ f. absurd (omega (arith, lapsed origin));
-                  reports = λ q b of. (all-has (λ b. (p : Content) → heard 3 b ≡ Ok p → Known p) fitting b.0 all_known b.1 q b.2).1;
+                  reports = λ q b of. (All-contains AllKnown fitting b.0 all_known b.1 q b.2).1;
                 };
             one = λ p q b c of serial.
-                let known-p = all-has (λ b. (p : Content) → heard 3 b ≡ Ok p → Known p) fitting b.0 all_known b.1 p b.2 in
-                let known-q = all-has (λ b. (p : Content) → heard 3 b ≡ Ok p → Known p) fitting c.0 all_known c.1 q c.2 in
+                let known-p = All-contains AllKnown fitting b.0 all_known b.1 p b.2 in
+                let known-q = All-contains AllKnown fitting c.0 all_known c.1 q c.2 in
                 known-p.0 ∙ ap by_serial serial ∙ sym known-q.0;
           };
       forth = refl;

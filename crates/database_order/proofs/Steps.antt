@@ -1,7 +1,7 @@
 -- What one taking does to the entry of one node.
-use Rattle.std.proofs.Common.{◌≡◌, ℕ, ◌-◌, ◌≤◌, Bool, true, false, cond, eqb, ◌≢◌, ◌⊎◌, List, length, get_or, Ok, Err, Result, sym, refl, ap, ◌∙◌, inl, inr, arith}
+use Rattle.std.proofs.Common.{◌≡◌, ℕ, ◌-◌, ◌≤◌, Bool, true, false, cond, nat_eq, ◌≢◌, ◌⊎◌, List, length, Ok, Err, Result, sym, refl, ap, ◌∙◌, inl, inr, arith}
 use Rattle.std.proofs.lemmas.List.{get_or-set_same, get_or-set_other, length-set}
-use Rattle.std.proofs.lemmas.Bool.{cases_eq, eqb-true, eqb-false, leb-true, both_ways}
+use Rattle.std.proofs.lemmas.Bool.{cases_eq, eqb-true, eqb-false, both_ways}
 use Rattle.std.proofs.lemmas.Bool.Decides.{nat_tests}
 use Rattle.wire.specs.declared.fault.ReadFault.{ReadFault}
 use Rattle.wire.specs.Reports.{Content, said, report_questions, read_report}
@@ -31,15 +31,15 @@ read_fair b q e =
     let o = ok.origin.good in
     let s = ok.serial.good in
     let a = ok.age.good in
-    rw (← comes (report_questions b) (said b) q e) (record { origin = grind (arith, nat_tests); serial = leb-true (get_or b 7 0) 63 s; age = grind (arith, nat_tests) })
+    rw (← comes (report_questions b) (said b) q e) (record { origin = grind (arith, nat_tests); serial = grind (arith, nat_tests); age = grind (arith, nat_tests) })
 
 passed_is : (w : Result (Unit {0}) TakeFault) (p q : Content) → passed w p ≡ Ok q → p ≡ q
 passed_is (Ok u) p q h = cc
-passed_is (Err f) p q h = let z : ◌≡◌ {A = ℕ} 0 1 = cc in absurd (omega arith)
+passed_is (Err f) p q h = cc
 
 admitted_read : (count : ℕ) (r : Result Content ReadFault) (q : Content) → admitted count r ≡ Ok q → r ≡ Ok q
 admitted_read count (Ok p) q h = ap Ok (passed_is (within count p) p q h)
-admitted_read count (Err f) q h = let z : ◌≡◌ {A = ℕ} 0 1 = cc in absurd (omega arith)
+admitted_read count (Err f) q h = cc
 
 pub heard_fair : (count : ℕ) (b : List ℕ) (q : Content) → heard count b ≡ Ok q → Fair q
 heard_fair count b q h = read_fair b q (admitted_read count (read_report b) q h)
@@ -70,7 +70,7 @@ still s q false own = refl
 
 module _ (s : State) (origin : ℕ) (low : 1 ≤ origin) (high : origin ≤ length s.entries) where
   -- The entry after a report with the given answers to "newer?" and "the root's own?".
-  after : (q : Content) → Fair q → (n own : Bool) → newer (held s q.header.origin) q.header.serial ≡ n → eqb q.header.origin s.root ≡ own
+  after : (q : Content) → Fair q → (n own : Bool) → newer (held s q.header.origin) q.header.serial ≡ n → nat_eq q.header.origin s.root ≡ own
       → ((q.header.origin ≡ origin) × (origin ≡ s.root → ⊥) × (newer (held s origin) q.header.serial ≡ true) × (held (settled s q (verdict_on s q)) origin ≡ heard_entry q))
       ⊎ ((q.header.origin ≡ origin → (origin ≡ s.root → ⊥) → newer (held s origin) q.header.serial ≡ true → ⊥) × (held (settled s q (verdict_on s q)) origin ≡ held s origin))
   after q fair true true hn hr =
@@ -94,7 +94,7 @@ module _ (s : State) (origin : ℕ) (low : 1 ≤ origin) (high : origin ≤ leng
   after q fair false own hn hr =
       inr (
         (λ of other is. both_ways _ (rw of at hn) is),
-        rw hn (ap (λ t. held t origin) (still s q (eqb q.header.serial (held s q.header.origin).serial) (eqb q.header.origin s.root))),
+        rw hn (ap (λ t. held t origin) (still s q (nat_eq q.header.serial (held s q.header.origin).serial) (nat_eq q.header.origin s.root))),
       )
 
   -- Either the report that b brings renews the entry, or none does.
@@ -102,7 +102,7 @@ module _ (s : State) (origin : ℕ) (low : 1 ≤ origin) (high : origin ≤ leng
   Either b t = ((q : Content) × Renews s b origin q × (held t origin ≡ heard_entry q)) ⊎ (((q : Content) → Renews s b origin q → ⊥) × (held t origin ≡ held s origin))
 
   step_by : (b : List ℕ) (r : Result Content TakeFault) → heard s.count b ≡ r → Either b (left_by s r)
-  step_by b (Err f) e = inr ((λ q k. let h = k.brought in let z : ◌≡◌ {A = ℕ} 0 1 = cc in absurd (omega arith)), refl)
+  step_by b (Err f) e = inr ((λ q k. let h = k.brought in cc), refl)
   step_by b (Ok q) e =
       elim (after q (heard_fair s.count b q e) _ _ refl refl) [
         | inl p ↦ inl (q, record { brought = e; of = p.0; other = p.1; newer = p.2 }, p.3)

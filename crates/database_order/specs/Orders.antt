@@ -1,8 +1,8 @@
 -- The order in which reports are taken does not matter.
-use Rattle.std.specs.Prelude.{◌≡◌, ℕ, ◌≤◌, List, [], ◌∷◌, map, Ok}
+use Rattle.std.specs.Prelude.{◌≡◌, ℕ, ◌≤◌, List, fold, map, Ok}
 use Rattle.std.specs.Borrow.{Bor}
 use Rattle.std.specs.List.Sorted.{IsPermutation}
-use Rattle.std.specs.List.{ContainsAt as Has}
+use Rattle.std.specs.List.{Contains}
 use Rattle.wire.specs.declared.lines.Line.{Line}
 use Rattle.wire.specs.Reports.{Content}
 use Rattle.rows.specs.Rows.{lines_in}
@@ -12,8 +12,7 @@ use Rattle.database.specs.Taking.{heard, take_state}
 
 -- What taking one after the other leaves.
 abbrev pub taken_all : State → List (List ℕ) → State
-taken_all s [] = s
-taken_all s (b ∷ bs) = taken_all (take_state s b) bs
+taken_all s bs = fold take_state s bs
 
 -- The bytes of each report of a slice.
 abbrev pub bytes_of : List (Bor (List ℕ)) → List (List ℕ)
@@ -25,7 +24,7 @@ lines_held s = map (λ e. lines_in e.row) s.entries
 
 -- The report q is brought by some of the bytes, and not refused.
 abbrev pub Brought : ℕ → List (List ℕ) → Content → Type 0
-Brought count bs q = (b : List ℕ) × Has bs b × (heard count b ≡ Ok q)
+Brought count bs q = (b : List ℕ) × Contains bs b × (heard count b ≡ Ok q)
 
 -- A serial is among the 32 consecutive serials, modulo 64, that begin with `first`.
 abbrev pub Among : ℕ → ℕ → Type 0

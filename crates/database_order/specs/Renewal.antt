@@ -1,5 +1,5 @@
 -- Which entry a report renews: the law of taking.
-use Rattle.std.specs.Prelude.{◌≡◌, ℕ, ◌≤◌, true, List, length, Ok}
+use Rattle.std.specs.Prelude.{◌≡◌, ℕ, ◌≤◌, true, List, length, Ok, ◌≢◌}
 use Rattle.wire.specs.Reports.{Content}
 use Rattle.entries.specs.Freshness.{newer}
 use Rattle.database.specs.States.{State, held}
@@ -9,7 +9,7 @@ use Rattle.database.specs.Taking.{heard, heard_entry, take_state}
 pub record Renews (s : State) (b : List ℕ) (origin : ℕ) (q : Content) : Type 0 where
   pub brought : heard s.count b ≡ Ok q
   pub of : q.header.origin ≡ origin
-  pub other : origin ≡ s.root → ⊥
+  pub other : origin ≢ s.root
   pub newer : newer (held s origin) q.header.serial ≡ true
 
 -- What taking b does to the entry of each node: a report that renews it makes it, and an entry that no report renews stays as it was.

@@ -1,5 +1,6 @@
 -- What writing a report from the database answers, and what it leaves in the buffer.
-use Rattle.std.specs.Prelude.{ℕ, Bool, cond, ◌&&◌, List, Ok, Err, Result, nat_le, nat_lt}
+use Rattle.std.specs.Prelude.{ℕ, Bool, if◌then◌else◌, ◌&&◌, List, Ok, Err, Result, nat_le, nat_lt, codes, ◌++◌}
+use Rattle.std.specs.Fmt.{decimal}
 use Rattle.wire.specs.Reports.{Content}
 use Rattle.wire.specs.Form.{encode}
 use Rattle.wire_write.specs.declared.write.WriteFault.{WriteFault}
@@ -15,6 +16,10 @@ abbrev pub entry_number : EntryFault → ℕ
 entry_number fault.Origin = 25
 entry_number fault.Lapsed = 26
 entry_number (fault.Write e) = write_number e
+
+-- What a refusal prints: its number.
+abbrev pub entry_text : EntryFault → List ℕ
+entry_text f = codes "refused " ++ decimal (entry_number f)
 
 -- The report of an entry: its serial, its age and its lines. The retry flag is the caller's to give.
 abbrev pub report_from : ℕ → Bool → Entry → Content
@@ -33,11 +38,11 @@ after_put (Err e) = Err (fault.Write e)
 -- Origin in 1 to the count? Age above 0? Buffer long enough? The first no decides; else the answer is the report's length.
 abbrev pub entry_answer : State → ℕ → Bool → List ℕ → Result ℕ EntryFault
 entry_answer s origin retry old =
-    cond (nat_le 1 origin && nat_le origin s.count)
-    (cond (nat_lt 0 (held s origin).age) (after_put (put_answer (encode (report_of s origin retry)) old)) (Err fault.Lapsed))
-    (Err fault.Origin)
+    if nat_le 1 origin && nat_le origin s.count
+    then (if nat_lt 0 (held s origin).age then after_put (put_answer (encode (report_of s origin retry)) old) else Err fault.Lapsed)
+    else Err fault.Origin
 
 -- The report stands at the start of the buffer, and nothing behind it is altered; a refusal leaves the buffer as it was.
 abbrev pub entry_buffer : State → ℕ → Bool → List ℕ → List ℕ
 entry_buffer s origin retry old =
-    cond (nat_le 1 origin && nat_le origin s.count) (cond (nat_lt 0 (held s origin).age) (put (encode (report_of s origin retry)) old) old) old
+    if nat_le 1 origin && nat_le origin s.count then (if nat_lt 0 (held s origin).age then put (encode (report_of s origin retry)) old else old) else old

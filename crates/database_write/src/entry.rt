@@ -1,16 +1,18 @@
 // Writing the report of an entry.
-ghost use Rattle.std.specs.Prelude.{◌≡◌, take, IfOk, Ok};
+ghost use Rattle.std.specs.Prelude.{◌≡◌, take, IfOk, Ok, Some};
 ghost use Rattle.wire.specs.Reports.{read_report};
 ghost use Rattle.database.specs.States.{state};
-ghost use Rattle.database_write.specs.Writing.{entry_number, report_of, entry_answer, entry_buffer};
+ghost use Rattle.database_write.specs.Writing.{entry_number, entry_text, report_of, entry_answer, entry_buffer};
 ghost use Rattle.database_write.specs.declared.entry.EntryFault.TheVariants.{Write};
 
 use database::Database;
+use std::error::Error;
+use std::fmt;
 use wire::report::Header;
 use wire_write::write::{Draft, WriteFault, write_draft};
 
 // Why no report is written.
-#[derive(Clone, Copy)]
+#[derive(Clone, Copy, Debug, PartialEq, Eq)]
 pub enum EntryFault {
     // The origin is not in 1 to the count.
     Origin,
@@ -21,7 +23,7 @@ pub enum EntryFault {
 }
 
 impl EntryFault {
-    // The refusal's number.
+    // The refusal's number. A match, since variants that hold a value have no number to read by `as`.
     pub fn number(self) -> u8
         ensures { result ≡ entry_number self }
     {
@@ -33,6 +35,17 @@ impl EntryFault {
     }
 }
 
+impl fmt::Display for EntryFault {
+    ghost output = { λ fault. Some (entry_text fault) };
+
+    fn fmt<W: fmt::Write>(&self, f: &mut fmt::Formatter<W>) -> fmt::Result {
+        write!(f, "refused {}", self.number())
+    }
+}
+
+impl Error for EntryFault {}
+
+// By hand: a derived `From` promises nothing of what it makes.
 impl From<WriteFault> for EntryFault {
     ghost from_gives = { λ e r. r ≡ Write e };
 
@@ -53,9 +66,7 @@ pub fn write_entry(
     ensures buffer { out.new ≡ entry_buffer (state database.now) origin retry out.old }
     ensures reads_back { IfOk result (λ n. read_report (take n out.new) ≡ Ok (report_of (state database.now) origin retry)) }
 {
-    let Some(entry) = database.entry(origin) else {
-        return Err(EntryFault::Origin);
-    };
+    let entry = database.entry(origin).ok_or(EntryFault::Origin)?;
     if entry.age == 0 {
         return Err(EntryFault::Lapsed);
     }
@@ -66,6 +77,5 @@ pub fn write_entry(
         retry,
     };
     let lines = entry.row.lines();
-    let length = write_draft(&Draft { header, lines }, out)?;
-    Ok(length)
+    Ok(write_draft(&Draft { header, lines }, out)?)
 }

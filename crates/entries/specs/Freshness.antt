@@ -1,5 +1,5 @@
 -- Which report of an origin is newer.
-use Rattle.std.specs.Prelude.{◌≡◌, ◌⊎◌, Bool, cond, ◌&&◌, ◌||◌, ℕ, ◌+◌, ◌-◌, ◌%◌, ◌≤◌, nat_le, ◌==◌}
+use Rattle.std.specs.Prelude.{◌≡◌, ◌⊎◌, Bool, if◌then◌else◌, ◌&&◌, ◌||◌, ℕ, ◌+◌, ◌-◌, ◌%◌, ◌≤◌, nat_le, ◌==◌, ◌≢◌}
 use Rattle.entries.specs.declared.entry.Entry.{Entry}
 use Rattle.entries.specs.declared.freshness.Freshness.{Freshness}
 use Rattle.entries.specs.declared.freshness.Freshness.TheVariants as compared
@@ -14,7 +14,7 @@ newer held new = held.age == 0 || (nat_le 1 (ahead new held.serial) && nat_le (a
 
 -- What a report with this serial is to the entry.
 abbrev pub freshness : Entry → ℕ → Freshness
-freshness held new = cond (newer held new) compared.Newer (cond (new == held.serial) compared.Duplicate compared.Older)
+freshness held new = if newer held new then compared.Newer else (if new == held.serial then compared.Duplicate else compared.Older)
 
 -- The entry is in force, and the serial is not 1 to 31 ahead of it.
 abbrev pub NotNewer : Entry → ℕ → Type 0
@@ -27,4 +27,4 @@ Comes held new compared.Newer = (held.age ≡ 0) ⊎ ((1 ≤ ahead new held.seri
 -- Duplicate: not newer, and the same serial.
 Comes held new compared.Duplicate = NotNewer held new × (new ≡ held.serial)
 -- Older: the rest.
-Comes held new compared.Older = NotNewer held new × (new ≡ held.serial → ⊥)
+Comes held new compared.Older = NotNewer held new × (new ≢ held.serial)

@@ -1,5 +1,6 @@
 -- What taking a report is answered, and the refusals.
-use Rattle.std.specs.Prelude.{Bool, true, false, ℕ}
+use Rattle.std.specs.Prelude.{Bool, true, false, ℕ, List, ◌++◌, codes}
+use Rattle.std.specs.Fmt.{decimal}
 use Rattle.wire.specs.Faults.{read_number}
 use Rattle.entries.specs.declared.freshness.Freshness.{Freshness}
 use Rattle.entries.specs.declared.freshness.Freshness.TheVariants as compared
@@ -19,6 +20,10 @@ abbrev pub take_place : TakeFault → ℕ
 take_place (fault.Read e) = e.place
 take_place fault.Origin = 3
 take_place (fault.Neighbour p) = p
+
+-- What a refusal prints: its number and its place.
+abbrev pub take_text : TakeFault → List ℕ
+take_text f = codes "refused " ++ decimal (take_number f) ++ codes " at " ++ decimal (take_place f)
 
 -- What a report is answered, by what it is to the entry, and whether it is of the root's own number.
 abbrev pub verdict : Freshness → Bool → Taken

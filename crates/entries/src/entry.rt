@@ -6,7 +6,7 @@ use rows::Row;
 
 // The report that is in force for a node: its serial, the periods that it still has, and the lines that leave the node. At age 0
 // the report has lapsed, and its lines stay.
-#[derive(Clone, Copy)]
+#[derive(Clone, Copy, Debug, Default, PartialEq, Eq)]
 pub struct Entry {
     pub serial: u8,
     pub age: u8,
@@ -18,11 +18,7 @@ impl Entry {
     pub fn fresh() -> Entry
         ensures { result ≡ fresh }
     {
-        Entry {
-            serial: 0,
-            age: 0,
-            row: Row::new(),
-        }
+        Entry::default()
     }
 
     // The entry a period later.
@@ -30,9 +26,8 @@ impl Entry {
         ensures { result ≡ aged self }
     {
         Entry {
-            serial: self.serial,
             age: self.age.saturating_sub(1),
-            row: self.row,
+            ..self
         }
     }
 }

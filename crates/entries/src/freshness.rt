@@ -5,7 +5,7 @@ ghost use Rattle.entries.specs.Freshness.{ahead, freshness, Comes};
 use crate::entry::Entry;
 
 // What a report is to the entry of its origin.
-#[derive(Clone, Copy)]
+#[derive(Clone, Copy, Debug, PartialEq, Eq)]
 pub enum Freshness {
     Newer,
     Duplicate,
@@ -26,12 +26,12 @@ impl Entry {
         ensures meaning { Comes self serial result }
     {
         let ahead = ahead(serial, self.serial);
-        if self.age == 0 || 1 <= ahead && ahead <= 31 {
-            return Freshness::Newer;
+        if self.age == 0 || (1..=31).contains(&ahead) {
+            Freshness::Newer
+        } else if serial == self.serial {
+            Freshness::Duplicate
+        } else {
+            Freshness::Older
         }
-        if serial == self.serial {
-            return Freshness::Duplicate;
-        }
-        Freshness::Older
     }
 }

@@ -1,5 +1,5 @@
-pub mod Written
-pub mod Spread
-pub mod Listing
+pub mod Every
+pub mod Sofar
 pub mod Listed
+pub mod Listing
 pub mod Asking

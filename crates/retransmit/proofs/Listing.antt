@@ -1,61 +1,42 @@
 -- Origins listed one after the other.
-use Rattle.std.proofs.Common.{◌≡◌, ℕ, zero, suc, ◌+◌, ◌-◌, ◌<◌, ◌≤◌, Bool, true, false, cond, List, [], ◌∷◌, ◌++◌, length, get_or, drop, set, filter, sym, refl, ap, ◌∙◌, add-zero, arith}
-use Rattle.std.proofs.lemmas.List.Elements.{filter-append}
-use Rattle.std.proofs.lemmas.List.{append-nil, append_assoc, length_push, drop_more, set_at}
+use Rattle.std.proofs.Common.{◌≡◌, ℕ, zero, suc, ◌+◌, ◌-◌, ◌<◌, ◌≤◌, Bool, true, List, [], ◌∷◌, ◌++◌, length, get_or, drop, set, filter, map, sym, ap, ◌∙◌, map-id, inl, inr, arith}
+use Rattle.std.proofs.lemmas.Bool.{cases_Bool}
+use Rattle.std.proofs.lemmas.List.{append_assoc, length_push, drop_more, set_at}
 use Rattle.std.specs.List.{range_with_len}
 use Rattle.database.specs.States.{State}
-use Rattle.retransmit.specs.Resending.{due, due_on}
+use Rattle.retransmit.specs.Resending.{due_by, due_in, due_on}
+use Rattle.retransmit.proofs.Listed.{in_force}
 
-counting_more : (n a : ℕ) → range_with_len a (suc n) ≡ range_with_len a n ++ (a + n) ∷ []
-counting_more zero a = ap (λ (m : ℕ). m ∷ []) (sym (add-zero a))
-counting_more (suc n) a = let e : a + 1 + n ≡ a + suc n = omega arith in ap (λ t. a ∷ t) (counting_more n (a + 1) ∙ ap (λ (m : ℕ). range_with_len (a + 1) n ++ m ∷ []) e)
+-- One more behind those that are listed.
+pub listed_more : (old new xs : List ℕ) (n x : ℕ) → new ≡ xs ++ drop (length xs) old → n ≡ length xs → length xs < length old → set new n x ≡ (xs ++ x ∷ []) ++ drop (length (xs ++ x ∷ [])) old
+listed_more old new xs n x is size room =
+    rw (is, drop_more old (length xs) 0 room, length_push xs x) (set_at xs (get_or old (length xs) 0) (drop (length xs + 1) old) x n (sym size) ∙ sym (append_assoc xs (x ∷ []) (drop (length xs + 1) old)))
 
-module _ (p : ℕ → Bool) where
-  kept_more : (o : ℕ) → 1 ≤ o → filter p (range_with_len 1 o) ≡ filter p (range_with_len 1 (o - 1)) ++ cond (p o) (o ∷ []) []
-  kept_more o h =
-      let e : o ≡ suc (o - 1) = omega arith in
-      let m : 1 + (o - 1) ≡ o = omega arith in
-      ap (λ (n : ℕ). filter p (range_with_len 1 n)) e ∙ ap (filter p) (counting_more (o - 1) 1) ∙ filter-append p (range_with_len 1 (o - 1)) ((1 + (o - 1)) ∷ [])
-      ∙ ap (λ (n : ℕ). filter p (range_with_len 1 (o - 1)) ++ cond (p n) (n ∷ []) []) m
+-- Of numbers from a on, those that lie below b are no more than lie between.
+pub few : (p : ℕ → Bool) (n a b : ℕ) → ((o : ℕ) → p o ≡ true → o < b) → length (filter p (range_with_len a n)) ≤ b - a
+few p zero a b below = omega arith
+few p (suc n) a b below =
+    let rest = few p n (a + 1) b below in
+    elim (cases_Bool (p a)) [
+      | inl e ↦ let here = below a e in rw e (omega arith)
+      | inr e ↦ rw e (omega arith)
+    ]
 
-  -- The list so far: those before o that pass, and then the list as it was.
-  pub record Front (old new : List ℕ) (listed o : ℕ) : Type 0 where
-    pub front : new ≡ filter p (range_with_len 1 (o - 1)) ++ drop listed old
-    pub size : length (filter p (range_with_len 1 (o - 1))) ≡ listed
-    pub few : listed ≤ o - 1
+-- Only origins within the count are due.
+pub due_few : (db : State) (timers : List ℕ) → length (filter (due_by db timers) (range_with_len 1 64)) ≤ db.count
+due_few db timers = omega (arith, few (due_by db timers) 64 1 (db.count + 1) (λ o h. let (_, w, _, _) = in_force db (get_or timers (o - 1) 0) o h in omega arith))
 
-  pub front_none : (old : List ℕ) → Front old old 0 1
-  front_none old = record { front = refl; size = refl; few = omega arith }
+-- When all that are due came, just those are listed.
+pub all_listed : (db : State) (timers old new xs : List ℕ) (n : ℕ) → map (λ x. x) xs ≡ filter (due_by db timers) (range_with_len 1 64) → new ≡ xs ++ drop (length xs) old → n ≡ length xs
+    → (n ≡ length (due_in db timers)) × (new ≡ due_in db timers ++ drop n old) × (n ≤ db.count)
+unfolding due_in
+all_listed db timers old new xs n all is size =
+    let e : xs ≡ filter (due_by db timers) (range_with_len 1 64) = sym (map-id xs) ∙ all in
+    (size ∙ ap length e, is ∙ ap (λ k. xs ++ drop k old) (sym size) ∙ ap (λ t. t ++ drop n old) e, omega (arith, ap length e, due_few db timers))
 
-  module _ (old new : List ℕ) (listed o : ℕ) (low : 1 ≤ o) (f : Front old new listed o) where
-    back : o + 1 - 1 ≡ o
-    back = omega arith
-
-    pub front_no : p o ≡ false → Front old new listed (o + 1)
-    front_no h =
-        let e : filter p (range_with_len 1 o) ≡ filter p (range_with_len 1 (o - 1)) = kept_more o low ∙ ap (λ (b : Bool). filter p (range_with_len 1 (o - 1)) ++ cond b (o ∷ []) []) h ∙ append-nil (filter p (range_with_len 1 (o - 1))) in
-        record {
-          front = rw (back, e) f.front;
-          size = rw (back, e) f.size;
-          few = omega (arith, f.few);
-        }
-
-    pub front_yes : p o ≡ true → listed < length old → Front old (set new listed o) (listed + 1) (o + 1)
-    front_yes h l =
-        let xs = filter p (range_with_len 1 (o - 1)) in
-        let e : filter p (range_with_len 1 o) ≡ xs ++ o ∷ [] = kept_more o low ∙ ap (λ (b : Bool). xs ++ cond b (o ∷ []) []) h in
-        record {
-          front =
-              rw (back, e, f.front, drop_more old listed 0 l) (set_at xs (get_or old listed 0) (drop (listed + 1) old) o listed f.size ∙ sym (append_assoc xs (o ∷ []) (drop (listed + 1) old)));
-          size = rw (back, e) (length_push xs o ∙ ap (λ (n : ℕ). n + 1) f.size);
-          few = omega (arith, f.few);
-        }
-
--- When all origins were passed, those that are due are listed.
-pub front_all : (db : State) (slot : ℕ) (ts old new : List ℕ) (listed o : ℕ) → o ≡ 65 → Front (due db slot ts) old new listed o
-    → (listed ≡ length (due_on db slot ts)) × (new ≡ due_on db slot ts ++ drop listed old)
-unfolding due_on
-front_all db slot ts old new listed o end f =
-    let e : o - 1 ≡ 64 = omega arith in
-    let same : filter (due db slot ts) (range_with_len 1 (o - 1)) ≡ filter (due db slot ts) (range_with_len 1 64) = ap (λ (n : ℕ). filter (due db slot ts) (range_with_len 1 n)) e in
-    (sym f.size ∙ ap length same, f.front ∙ ap (λ t. t ++ drop listed old) same)
+-- What is due by the timers of a slot is due on the slot.
+pub same_due : (db : State) (slot : ℕ) (ts : List (List ℕ)) (timers : List ℕ) (i : ℕ) → i + 1 ≡ slot → timers ≡ get_or ts i [] → due_in db timers ≡ due_on db slot ts
+unfolding due_in due_on
+same_due db slot ts timers i number is =
+    let back : slot - 1 ≡ i = omega arith in
+    ap (λ (t : List ℕ). filter (due_by db t) (range_with_len 1 64)) (is ∙ ap (λ (k : ℕ). get_or ts k []) (sym back))

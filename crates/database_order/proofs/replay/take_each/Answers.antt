@@ -1,5 +1,5 @@
-use Rattle.std.proofs.Common.{◌≡◌, ap, ◌∙◌}
-use Rattle.std.proofs.lemmas.List.{take_all}
+use Rattle.std.proofs.Common.{◌≡◌, ap, ◌∙◌, arith}
+use Rattle.std.proofs.lemmas.List.{take_all, length-map}
 use Rattle.database.specs.States.{state}
 use Rattle.database_order.specs.Orders.{taken_all, lines_held, bytes_of}
 use Rattle.database_order.proofs.Ends.{order_free}
@@ -14,6 +14,7 @@ loop-report-preserved c =
 pub returns : goal.returns
 returns c =
     let s = state c.args.database.now in
-    let rs = c.args.reports.now in
-    let left : state c.loop-report.database ≡ taken_all s (bytes_of rs) = c.loop-report.invariant ∙ ap (λ xs. taken_all s (bytes_of xs)) (take_all c.loop-report.report-index rs c.loop-report-test.false) in
-    record { left = left; any_order = λ ys same ok. ap lines_held left ∙ order_free s (bytes_of rs) ys same ok }
+    let rs = bytes_of c.args.reports.now in
+    let all = take_all c.loop-report.report-index rs (omega (arith, length-map c.args.reports.now (λ x. x.now))) in
+    let left : state c.loop-report.database ≡ taken_all s rs = c.loop-report.invariant ∙ ap (taken_all s) all in
+    record { left = left; any_order = λ ys same ok. ap lines_held left ∙ order_free s rs ys same ok }

@@ -1,53 +1,36 @@
-use Rattle.std.proofs.Common.{◌≡◌, ◌<◌, ◌≤◌, ◌++◌, length, take, drop, Ok, sym, ap, ◌∙◌, inl, inr, arith}
+use Rattle.std.proofs.Common.{◌≡◌, ◌+◌, ◌<◌, ◌≤◌, ◌++◌, [], length, get_or, take, drop, Ok, sym, ap, ◌∙◌, arith, rules}
 use Rattle.std.proofs.lemmas.List.{take_at}
 use Rattle.database.specs.States.{state}
-use Rattle.retransmit.specs.Resending.{due_on, or_else}
-use Rattle.retransmit.proofs.Asking.{no_slot, no_list, all_asked}
+use Rattle.retransmit.specs.Resending.{lowered_for, due_in, due_on, or_else}
+use Rattle.retransmit.proofs.Every.{Full, row_set}
 use Rattle.retransmit.proofs.Listed.{exactly}
+use Rattle.retransmit.proofs.Asking.{all_asked}
+use Rattle.retransmit.proofs.Listing.{same_due}
 use Rattle.retransmit.proofs.timers.Timers.resend.Goals as goal
-
-pub returns-then-slot-lt1 : goal.returns-then-slot-lt1
-returns-then-slot-lt1 c =
-    let db = state c.args.database.now in
-    let list = c.args.list.now in
-    let out : 1 ≤ c.args.slot → c.args.slot ≤ 8 → ⊥ = λ p q. elim c.then-slot-lt1.either [ inl x ↦ omega arith | inr y ↦ omega arith ] in
-    record {
-      answer = sym (no_slot db c.args.slot list _ out);
-      timers = sym (ap (λ r. or_else r c.args.self.now.left) (no_slot db c.args.slot list _ out));
-      listed = sym (ap (λ r. or_else r list) (no_slot db c.args.slot list _ out));
-      exactly = tt;
-    }
-
-pub returns-then-list-count : goal.returns-then-list-count
-returns-then-list-count c =
-    let db = state c.args.database.now in
-    let list = c.args.list.now in
-    let short : length list < db.count = omega (arith, c.count.ensures.value) in
-    let low = c.if-slot-lt1.false in
-    let high = c.if-slot-gt8.false in
-    record {
-      answer = sym (no_list db c.args.slot list _ low high short);
-      timers = sym (ap (λ r. or_else r c.args.self.now.left) (no_list db c.args.slot list _ low high short));
-      listed = sym (ap (λ r. or_else r list) (no_list db c.args.slot list _ low high short));
-      exactly = tt;
-    }
 
 pub returns : goal.returns
 returns c =
     let db = state c.args.database.now in
+    let slot = c.args.slot in
     let list = c.args.list.now in
     let ts = c.args.self.now.left in
-    let xs = due_on db c.args.slot ts in
+    let h : Full ts = record { full = c.args.self.now.full; each = c.args.self.now.each } in
+    let i = c.place-place.result in
+    let within : i < 8 = search rules in
+    let number : i + 1 ≡ slot = c.place-place.ensures.within (omega arith) in
+    let timers : c.in_ok-timers.timers.now ≡ get_or ts i [] = search rules in
+    let n = c.list_due-listed.result in
     let long : db.count ≤ length list = omega (arith, c.count.ensures.value) in
-    let low = c.if-slot-lt1.false in
-    let high = c.if-slot-gt8.false in
     let few : db.count ≤ 64 = omega (arith, c.count.ensures.value, c.count.ensures.range) in
-    let n : length xs ≡ c.list_due-listed.result = sym c.list_due-listed.ensures.answer in
-    let put = c.list_due-listed.ensures.listed in
-    let front : take c.list_due-listed.result c.list_due-listed.new.list ≡ xs = ap (take c.list_due-listed.result) put ∙ take_at xs (drop c.list_due-listed.result list) c.list_due-listed.result n in
+    let asked = λ (X : Type 0) (x : X). all_asked db slot list x (omega arith) (omega arith) long in
+    let due : due_in db c.in_ok-timers.timers.now ≡ due_on db slot ts = same_due db slot ts c.in_ok-timers.timers.now i number timers in
+    let size : length (due_on db slot ts) ≡ n = ap length (sym due) ∙ sym c.list_due-listed.ensures.answer in
+    let put : c.list_due-listed.new.list ≡ due_on db slot ts ++ drop n list = c.list_due-listed.ensures.listed ∙ ap (λ xs. xs ++ drop n list) due in
+    let front : take n c.list_due-listed.new.list ≡ due_on db slot ts = ap (take n) put ∙ take_at (due_on db slot ts) (drop n list) n size in
+    let lowered = (row_set ts h slot (lowered_for db) i _ number within c.count_down.ensures.size c.count_down.ensures.each).1 in
     record {
-      answer = ap Ok (sym n) ∙ sym (all_asked db c.args.slot list _ low high long);
-      timers = c.count_down.ensures ∙ sym (ap (λ r. or_else r ts) (all_asked db c.args.slot list _ low high long));
-      listed = put ∙ ap (λ k. xs ++ drop k list) (sym n) ∙ sym (ap (λ r. or_else r list) (all_asked db c.args.slot list _ low high long));
-      exactly = rw front (exactly db c.args.slot ts few);
+      answer = ap Ok (sym size) ∙ sym (asked _ _);
+      timers = lowered ∙ sym (ap (λ r. or_else r ts) (asked _ _));
+      listed = put ∙ ap (λ k. due_on db slot ts ++ drop k list) (sym size) ∙ sym (ap (λ r. or_else r list) (asked _ _));
+      exactly = rw front (exactly db slot ts few);
     }
