@@ -1,7 +1,7 @@
 -- The course of a record over any list of messages. Assumes nothing.
-use Rattle.std.proofs.Common.{◌≡◌, ℕ, suc, ◌+◌, ◌<◌, Bool, true, false, eqb, leb, List, [], ◌∷◌, ◌++◌, length, take, replicate, Some, None, sym, refl, ap, ◌∙◌, subst, arith, lit<}
+use Rattle.std.proofs.Common.{◌≡◌, suc, ◌+◌, ◌<◌, Bool, true, false, nat_le, List, [], ◌∷◌, ◌++◌, length, take, replicate, sym, refl, ap, ◌∙◌, arith, lit<}
 use Rattle.std.proofs.lemmas.List.{append-nil, append_assoc}
-use Rattle.std.proofs.lemmas.Bool.{cond-true, cond-false, ne_eqb, eq-eqb, both_ways}
+use Rattle.std.proofs.lemmas.Bool.{ne_eqb, eq-eqb, both_ways}
 use Rattle.line.specs.Messages.{misses, last, row, failing, steady, clear}
 use Rattle.line.specs.Windows.{pushed, held}
 use Rattle.line.specs.Moves.{State, down, ready, up, Shown, shown, keeping, moved, moved_by, after_messages}
@@ -10,7 +10,7 @@ use Rattle.line.specs.declared.messages.Message.{Message}
 use Rattle.line.specs.declared.messages.Message.TheVariants.{Heard, Missed}
 use Rattle.line.specs.declared.states.Record.{Record}
 use Rattle.line.specs.declared.states.Record.TheVariants as record_of
-use Rattle.line.specs.declared.states.Window.{Window}
+use Rattle.line.specs.declared.window.Window.{Window}
 use Rattle.line.proofs.Masks.{length_held, ones_held}
 use Rattle.line.proofs.Lasts.{last_last, last_all, last_many, misses_clear, row_heard, row_missed, row_replicate, steady_row, row_steady}
 
@@ -44,31 +44,25 @@ since_more : (h : List Message) (m : Message) → last 20 (since_ready h ++ m �
 since_more h m = last_last 20 (clear ++ h) (m ∷ []) ∙ ap (last 20) (append_assoc clear h (m ∷ []))
 
 failing_since : (h : List Message) (m : Message) → failing (since_ready h ++ m ∷ []) ≡ failing (h ++ m ∷ [])
-failing_since h m = ap (λ (ms : List Message). leb 3 (misses ms)) (since_more h m) ∙ ap (leb 3) (misses_clear 20 (h ++ m ∷ []))
+failing_since h m = ap (λ (ms : List Message). nat_le 3 (misses ms)) (since_more h m) ∙ ap (nat_le 3) (misses_clear 20 (h ++ m ∷ []))
 
 module _ (in-state : List Message → State) (steps : (w : List Message) (m : Message) → moved (in-state w) m ≡ keeping in-state (pushed w m)) where
   keeps : (h : List Message) (m : Message) → failing (h ++ m ∷ []) ≡ false → moved (in-state (since_ready h)) m ≡ in-state (since_ready (h ++ m ∷ []))
-  keeps h m e =
-      steps (since_ready h) m ∙ ap (keeping in-state) (cond-false (failing (since_ready h ++ m ∷ [])) None (Some (last 20 (since_ready h ++ m ∷ []))) (failing_since h m ∙ e))
-      ∙ ap in-state (since_more h m)
+  keeps h m e = steps (since_ready h) m ∙ rw (failing_since h m ∙ e) (ap in-state (since_more h m))
 
   breaks : (h : List Message) (m : Message) → failing (h ++ m ∷ []) ≡ true → moved (in-state (since_ready h)) m ≡ down 0
-  breaks h m e =
-      steps (since_ready h) m ∙ ap (keeping in-state) (cond-true (failing (since_ready h ++ m ∷ [])) None (Some (last 20 (since_ready h ++ m ∷ []))) (failing_since h m ∙ e))
+  breaks h m e = steps (since_ready h) m ∙ rw (failing_since h m ∙ e)
 
   stays : (h ms : List Message) → Never failing h ms → moved_by (in-state (since_ready h)) ms ≡ in-state (since_ready (h ++ ms))
-  stays h [] never = ap (λ (x : List Message). in-state (since_ready x)) (sym (append-nil h))
-  stays h (m ∷ ms) never =
-      ap (λ (s : State). moved_by s ms) (keeps h m (never_now failing h m ms never))
-      ∙ stays (h ++ m ∷ []) ms (never_later failing h m ms never) ∙ ap (λ (x : List Message). in-state (since_ready x)) (step_over h m ms)
+  stays h [] never = rw append-nil
+  stays h (m ∷ ms) never = rw (keeps h m (never_now failing h m ms never), ← step_over h m ms) (stays (h ++ m ∷ []) ms (never_later failing h m ms never))
 
   falls : (h ms : List Message) → FirstAtLast failing h ms → moved_by (in-state (since_ready h)) ms ≡ down 0
   falls h [] first = absurd (omega (arith, first.0))
   falls h (m ∷ []) first = breaks h m first.1
   falls h (m ∷ n ∷ ms) first =
       let more : 0 < length (n ∷ ms) = omega arith in
-      ap (λ (s : State). moved_by s (n ∷ ms)) (keeps h m (first_now failing h m (n ∷ ms) first more))
-      ∙ falls (h ++ m ∷ []) (n ∷ ms) (first_later failing h m (n ∷ ms) first more)
+      rw (keeps h m (first_now failing h m (n ∷ ms) first more)) (falls (h ++ m ∷ []) (n ∷ ms) (first_later failing h m (n ∷ ms) first more))
 
 -- ---- Down
 
@@ -78,21 +72,20 @@ counts_on h Missed short e = (ap down (sym (row_missed h)), omega (arith, row_mi
 counts_on h Heard short e =
     let one = row_heard h in
     let not30 : row h + 1 ≡ 30 → ⊥ = λ q. both_ways (steady (h ++ Heard ∷ [])) e (row_steady (h ++ Heard ∷ []) (omega arith)) in
-    (cond-false (eqb (row h + 1) 30) (ready clear) (down (row h + 1)) (ne_eqb (row h + 1) 30 not30) ∙ ap down (sym one), omega arith)
+    (rw (ne_eqb (row h + 1) 30 not30) (ap down (sym one)), omega arith)
 
 -- and is Ready as soon as it is
 pub ready_at : (h : List Message) (m : Message) → row h < 30 → steady (h ++ m ∷ []) ≡ true → moved (down (row h)) m ≡ ready clear
 ready_at h Missed short e = absurd (omega (arith, steady_row (h ++ Missed ∷ []) e, row_missed h))
 ready_at h Heard short e =
     let full : row h + 1 ≡ 30 = omega (arith, steady_row (h ++ Heard ∷ []) e, row_heard h) in
-    cond-true (eqb (row h + 1) 30) (ready clear) (down (row h + 1)) (eq-eqb (row h + 1) 30 full)
+    rw (eq-eqb (row h + 1) 30 full)
 
 waits : (h ms : List Message) → row h < 30 → Never steady h ms → moved_by (down (row h)) ms ≡ down (row (h ++ ms))
-waits h [] short never = ap (λ (x : List Message). down (row x)) (sym (append-nil h))
+waits h [] short never = rw append-nil
 waits h (m ∷ ms) short never =
     let next = counts_on h m short (never_now steady h m ms never) in
-    ap (λ (s : State). moved_by s ms) next.0 ∙ waits (h ++ m ∷ []) ms next.1 (never_later steady h m ms never)
-    ∙ ap (λ (x : List Message). down (row x)) (step_over h m ms)
+    rw (next.0, ← step_over h m ms) (waits (h ++ m ∷ []) ms next.1 (never_later steady h m ms never))
 
 rises : (h ms : List Message) → row h < 30 → FirstAtLast steady h ms → moved_by (down (row h)) ms ≡ ready clear
 rises h [] short first = absurd (omega (arith, first.0))
@@ -100,7 +93,7 @@ rises h (m ∷ []) short first = ready_at h m short first.1
 rises h (m ∷ n ∷ ms) short first =
     let more : 0 < length (n ∷ ms) = omega arith in
     let next = counts_on h m short (first_now steady h m (n ∷ ms) first more) in
-    ap (λ (s : State). moved_by s (n ∷ ms)) next.0 ∙ rises (h ++ m ∷ []) (n ∷ ms) next.1 (first_later steady h m (n ∷ ms) first more)
+    rw next.0 (rises (h ++ m ∷ []) (n ∷ ms) next.1 (first_later steady h m (n ∷ ms) first more))
 
 -- ---- all together
 
@@ -115,34 +108,32 @@ short (record_of.Down d) = d.short
 short (record_of.Ready d) = tt
 short (record_of.Up d) = tt
 
-same_count : (m n : ℕ) → down m ≡ down n → m ≡ n
-same_count m n e = cc
-
 leads : (s : State) (ms : List Message) → Short s → (h : List Message) → Since h s → Leads h s ms (moved_by s ms)
 leads (down n) ms less h e =
-    let below : row h < 30 = omega (arith, same_count n (row h) e) in
-    let start = ap (λ (s : State). moved_by s ms) e in
-    (λ never. start ∙ waits h ms below never, λ first. start ∙ rises h ms below first)
+    let same : n ≡ row h = cc in
+    let below : row h < 30 = omega arith in
+    rw same (waits h ms below, rises h ms below)
 leads (ready w) ms less h e =
-    let start = ap (λ (s : State). moved_by s ms) e in
-    (λ never. start ∙ stays ready (λ _ _. refl) h ms never, λ first. start ∙ falls ready (λ _ _. refl) h ms first)
+    let same : w ≡ since_ready h = cc in
+    rw same (stays ready (λ _ _. refl) h ms, falls ready (λ _ _. refl) h ms)
 leads (up w) ms less h e =
-    let start = ap (λ (s : State). moved_by s ms) e in
-    (λ never. start ∙ stays up (λ _ _. refl) h ms never, λ first. start ∙ falls up (λ _ _. refl) h ms first)
+    let same : w ≡ since_ready h = cc in
+    rw same (stays up (λ _ _. refl) h ms, falls up (λ _ _. refl) h ms)
 
 -- what a window holds may be what came since Ready
 window_begun : (w : Window) → held w ≡ since_ready (held w)
 window_begun w =
     let size = length_held 20 w.missed in
-    sym (last_many 20 clear (held w) refl (omega arith) ∙ last_all 20 (held w) (omega arith))
+    let many = last_many 20 clear (held w) refl in
+    grind (arith, last_all)
 
 begun : (r : Record) → (h : List Message) × Since h (shown r).state
 begun (record_of.Down d) = (replicate d.heard Heard, ap down (sym (row_replicate d.heard)))
-begun (record_of.Ready d) = (held d.window, ap ready (window_begun d.window))
-begun (record_of.Up d) = (held d.window, ap up (window_begun d.window))
+begun (record_of.Ready d) = (held d.watch.window, ap ready (window_begun d.watch.window))
+begun (record_of.Up d) = (held d.watch.window, ap up (window_begun d.watch.window))
 
 pub course : (r : Record) (ms : List Message) (s : Shown) → s ≡ after_messages (shown r) ms → Course (shown r).state ms s.state
-course r ms s e = subst (λ (x : Shown). Course (shown r).state ms x.state) (sym e) (begun r, leads (shown r).state ms (short r))
+course r ms s e = rw e (begun r, leads (shown r).state ms (short r))
 
 -- ---- the mask
 
@@ -151,5 +142,5 @@ mask_counts w = λ h e. ones_held 20 w.missed w.narrow ∙ ap misses e ∙ misse
 
 pub counts : (r : Record) → Counts r
 counts (record_of.Down d) = tt
-counts (record_of.Ready d) = mask_counts d.window
-counts (record_of.Up d) = mask_counts d.window
+counts (record_of.Ready d) = mask_counts d.watch.window
+counts (record_of.Up d) = mask_counts d.watch.window

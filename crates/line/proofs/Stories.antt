@@ -1,9 +1,9 @@
 -- The whole story of a record from Down on. Assumes nothing.
-use Rattle.std.proofs.Common.{◌≡◌, ℕ, ◌+◌, ◌-◌, ◌<◌, ◌≤◌, Bool, true, false, leb, List, [], ◌∷◌, ◌++◌, length, take, replicate, Some, None, sym, refl, ap, ◌∙◌, subst, ⊎_elim, arith}
+use Rattle.std.proofs.Common.{◌≡◌, ℕ, ◌+◌, ◌-◌, ◌<◌, ◌≤◌, Bool, true, false, nat_le, List, [], ◌∷◌, ◌++◌, length, take, replicate, sym, refl, ap, ◌∙◌, ⊎_elim, arith}
 use Rattle.std.proofs.lemmas.List.{append-nil, append_assoc, length_push, length-drop, take_all, take-append-le}
-use Rattle.std.proofs.lemmas.Bool.{cases_lt, cases_Bool, cond-true, cond-false, leb-true, leb-false, both_ways}
+use Rattle.std.proofs.lemmas.Bool.{cases_lt, cases_Bool, leb-true, leb-false, both_ways}
 use Rattle.line.specs.Messages.{misses, last, row, failing, steady, clear}
-use Rattle.line.specs.Moves.{State, down, ready, up, Shown, shown, keeping, moved, moved_by, after_messages}
+use Rattle.line.specs.Moves.{State, down, ready, up, Shown, shown, moved, moved_by, after_messages}
 use Rattle.line.specs.Courses.{Good, Story, Whole}
 use Rattle.line.specs.declared.messages.Message.{Message}
 use Rattle.line.specs.declared.messages.Message.TheVariants.{Heard, Missed}
@@ -27,7 +27,7 @@ steady_clear ms e =
     sym (all_heard (last 20 ms) (steady_none ms e) ∙ ap (λ (n : ℕ). replicate n Heard) size)
 
 steady_sound : (ms : List Message) → steady ms ≡ true → failing ms ≡ false
-steady_sound ms e = ap (leb 3) (steady_none ms e)
+steady_sound ms e = ap (nat_le 3) (steady_none ms e)
 
 -- the message at which a line fails was missed
 fails_missed : (g : List Message) (m : Message) → failing g ≡ false → failing (g ++ m ∷ []) ≡ true → 0 ≡ row (g ++ m ∷ [])
@@ -92,8 +92,8 @@ story_down : (g : List Message) (m : Message) → (Good g → ⊥) → Story (g 
 story_down g m bad =
     let more = g ++ m ∷ [] in
     ⊎_elim
-    (λ e. subst (Story more) (sym (ready_at g m (bad_short g bad) e)) (steady_clear more e, good_now more e))
-    (λ e. subst (Story more) (sym (counts_on g m (bad_short g bad) e).0) (refl, bad_more g m bad e))
+    (λ e. rw (ready_at g m (bad_short g bad) e) (steady_clear more e, good_now more e))
+    (λ e. rw ((counts_on g m (bad_short g bad) e).0) (refl, bad_more g m bad e))
     (cases_Bool (steady more))
 
 story_ready : (g : List Message) (m : Message) → Good g → Story (g ++ m ∷ []) (moved (ready (last 20 g)) m)
@@ -101,28 +101,26 @@ story_ready g m good =
     let more = g ++ m ∷ [] in
     let w = last 20 g ++ m ∷ [] in
     let same : last 20 w ≡ last 20 more = last_last 20 g (m ∷ []) in
-    let sees : failing w ≡ failing more = ap (λ (ms : List Message). leb 3 (misses ms)) same in
+    let sees : failing w ≡ failing more = ap (λ (ms : List Message). nat_le 3 (misses ms)) same in
     ⊎_elim
-    (λ e. subst (Story more) (sym (ap (keeping ready) (cond-true (failing w) None (Some (last 20 w)) (sees ∙ e)))) (fails_missed g m (good_last g good) e, bad_now more e))
-    (λ e. subst (Story more) (sym (ap (keeping ready) (cond-false (failing w) None (Some (last 20 w)) (sees ∙ e)))) (same, good_more g m good e))
+    (λ (e : failing more ≡ true). rw (sees ∙ e) (fails_missed g m (good_last g good) e, bad_now more e))
+    (λ (e : failing more ≡ false). rw (sees ∙ e) (same, good_more g m good e))
     (cases_Bool (failing more))
 
 story_more : (g : List Message) (m : Message) (s : State) → Story g s → Story (g ++ m ∷ []) (moved s m)
-story_more g m (down n) t = subst (λ (k : ℕ). Story (g ++ m ∷ []) (moved (down k) m)) (sym t.0) (story_down g m t.1)
-story_more g m (ready w) t = subst (λ (x : List Message). Story (g ++ m ∷ []) (moved (ready x) m)) (sym t.0) (story_ready g m t.1)
+story_more g m (down n) t = rw t.0 (story_down g m t.1)
+story_more g m (ready w) t = rw t.0 (story_ready g m t.1)
 story_more g m (up w) t = absurd t
 
 -- ---- all the messages
 
 story_on : (g ms : List Message) (s : State) → Story g s → Story (g ++ ms) (moved_by s ms)
-story_on g [] s t = subst (λ (x : List Message). Story x s) (sym (append-nil g)) t
-story_on g (m ∷ ms) s t =
-    subst (λ (x : List Message). Story x (moved_by (moved s m) ms)) (append_assoc g (m ∷ []) ms) (story_on (g ++ m ∷ []) ms (moved s m) (story_more g m s t))
+story_on g [] s t = rw append-nil t
+story_on g (m ∷ ms) s t = rw (append_assoc g (m ∷ []) ms) at (story_on (g ++ m ∷ []) ms (moved s m) (story_more g m s t))
 
 nothing_good : Good [] → ⊥
 nothing_good good = omega (arith, steady_row (take good.0 []) good.2, ap row (take_all {A = Message} good.0 [] (omega arith)))
 
 pub whole : (r : Record) (ms : List Message) (s : Shown) → s ≡ after_messages (shown r) ms → Whole (shown r).state ms s.state
 whole r ms s e start =
-    subst (λ (x : Shown). Story ms x.state) (sym e)
-    (subst (λ (x : State). Story ms (moved_by x ms)) (sym start) (story_on [] ms (down 0) (refl, nothing_good)))
+    rw (e, start) (story_on [] ms (down 0) (refl, nothing_good))

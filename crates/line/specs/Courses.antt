@@ -2,7 +2,7 @@
 use Rattle.std.specs.Prelude.{◌≡◌, ℕ, ◌<◌, ◌≤◌, Bool, true, false, List, ◌++◌, length, take, count_ones}
 use Rattle.line.specs.Messages.{misses, last, row, failing, steady, clear}
 use Rattle.line.specs.Windows.{held}
-use Rattle.line.specs.Moves.{State, down, ready, up}
+use Rattle.line.specs.Moves.{State, down, ready, up, shown, after_messages}
 use Rattle.line.specs.declared.messages.Message.{Message}
 use Rattle.line.specs.declared.states.Record.{Record}
 use Rattle.line.specs.declared.states.Record.TheVariants as record_of
@@ -71,9 +71,9 @@ abbrev pub Counts : Record → Type 0
 -- In Down there is no mask.
 Counts (record_of.Down d) = Unit {0}
 -- In Ready the mask counts.
-Counts (record_of.Ready d) = CountsSince d.window.missed (held d.window)
+Counts (record_of.Ready d) = CountsSince d.watch.window.missed (held d.watch.window)
 -- In Up it counts as it did in Ready.
-Counts (record_of.Up d) = CountsSince d.window.missed (held d.window)
+Counts (record_of.Up d) = CountsSince d.watch.window.missed (held d.watch.window)
 
 -- ---- the whole story of a record
 
@@ -93,3 +93,13 @@ Story ms (up w) = ⊥
 -- The story of a record that is in Down with no message heard.
 abbrev pub Whole : State → List Message → State → Type 0
 Whole s ms t = s ≡ down 0 → Story ms t
+
+-- ---- all of it
+
+-- The messages ms passed between two records: what holds of the two.
+pub record Passed (from : Record) (ms : List Message) (to : Record) : Type 0 where
+  -- What they do one by one.
+  pub run : shown to ≡ after_messages (shown from) ms
+  pub course : Course (shown from).state ms (shown to).state
+  pub whole : Whole (shown from).state ms (shown to).state
+  pub counts : Counts to

@@ -1,5 +1,6 @@
 -- Making a record.
-use Rattle.std.specs.Prelude.{ℕ, Bool, cond, ◌&&◌, Ok, Err, Result, nat_le}
+use Rattle.std.specs.Prelude.{ℕ, Bool, if◌then◌else◌, ◌&&◌, List, ◌++◌, Ok, Err, Result, nat_le, codes}
+use Rattle.std.specs.Fmt.{decimal}
 use Rattle.line.specs.Moves.{Shown, shown, fresh}
 use Rattle.line.specs.declared.states.Down.{Down}
 use Rattle.line.specs.declared.states.Record.TheVariants as record_of
@@ -20,6 +21,10 @@ number_of refusal_of.Slot = 51
 -- The neighbour does not lie in 1 to 64.
 number_of refusal_of.Neighbour = 52
 
+-- What a refusal prints.
+abbrev pub refusal_text : Refusal → List ℕ
+refusal_text e = codes "refused " ++ decimal (number_of e)
+
 -- What each answer says.
 abbrev pub answer : Result Down Refusal → Made
 -- The record that was made.
@@ -33,4 +38,4 @@ within low high n = nat_le low n && nat_le n high
 
 -- The questions in their order, the first no deciding: slot in 1 to 8, else 51; neighbour in 1 to 64, else 52; then the record is in Down with no message heard.
 abbrev pub making : ℕ → ℕ → Made
-making s n = cond (within 1 8 s) (cond (within 1 64 n) (made (fresh s n)) (refused 52)) (refused 51)
+making s n = if within 1 8 s then (if within 1 64 n then made (fresh s n) else refused 52) else refused 51

@@ -1,5 +1,5 @@
 -- Lists of test messages, the oldest first.
-use Rattle.std.specs.Prelude.{ℕ, suc, ◌-◌, Bool, cond, ◌&&◌, List, [], ◌∷◌, length, drop, replicate, ◌==◌, nat_le}
+use Rattle.std.specs.Prelude.{ℕ, suc, ◌-◌, Bool, if◌then◌else◌, ◌&&◌, List, [], ◌∷◌, length, drop, replicate, ◌==◌, nat_le}
 use Rattle.line.specs.declared.messages.Message.{Message}
 use Rattle.line.specs.declared.messages.Message.TheVariants.{Heard, Missed}
 
@@ -16,7 +16,7 @@ last n ms = drop (length ms - n) ms
 -- How many messages at the end of a list were heard in a row.
 abbrev pub row : List Message → ℕ
 row [] = 0
-row (m ∷ ms) = cond (misses (m ∷ ms) == 0) (length (m ∷ ms)) (row ms)
+row (m ∷ ms) = if misses (m ∷ ms) == 0 then length (m ∷ ms) else row ms
 
 -- Three or more of the last 20 messages were missed.
 abbrev pub failing : List Message → Bool

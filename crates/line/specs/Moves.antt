@@ -1,13 +1,14 @@
 -- What a record says, and how the events move it.
-use Rattle.std.specs.Prelude.{ℕ, ◌+◌, Bool, true, false, cond, List, [], ◌∷◌, Some, None, Option, ◌==◌}
+use Rattle.std.specs.Prelude.{ℕ, ◌+◌, Bool, true, false, if◌then◌else◌, List, [], ◌∷◌, Some, None, Option, Ok, Err, Result, ◌==◌, codes}
 use Rattle.line.specs.Messages.{clear}
 use Rattle.line.specs.Windows.{pushed, held}
 use Rattle.line.specs.declared.messages.Message.{Message}
 use Rattle.line.specs.declared.messages.Message.TheVariants.{Heard, Missed}
 use Rattle.line.specs.declared.states.Record.{Record}
 use Rattle.line.specs.declared.states.Record.TheVariants as record_of
-use Rattle.line.specs.declared.states.Told.{Told}
-use Rattle.line.specs.declared.states.Told.TheVariants as told_of
+use Rattle.line.specs.declared.states.Down.{Down}
+use Rattle.line.specs.declared.states.Up.{Up}
+use Rattle.line.specs.declared.states.Watch.{Watch}
 
 -- The state of a line.
 pub data State : Type 0 where
@@ -24,14 +25,24 @@ pub record Shown : Type 0 where
   pub neighbour : ℕ
   pub state : State
 
+-- What the watch over a good line says, in a state that has the last 20 messages.
+abbrev pub watching : (List Message → State) → Watch → Shown
+watching in-state w = record { slot = w.ends.slot; neighbour = w.ends.neighbour; state = in-state (held w.window) }
+
 -- What a record in each state says.
 abbrev pub shown : Record → Shown
 -- A record in Down has the count of messages heard in a row.
 shown (record_of.Down d) = record { slot = d.ends.slot; neighbour = d.ends.neighbour; state = down d.heard }
 -- A record in Ready has the last 20 messages.
-shown (record_of.Ready d) = record { slot = d.ends.slot; neighbour = d.ends.neighbour; state = ready (held d.window) }
+shown (record_of.Ready d) = watching ready d.watch
 -- A record in Up has the last 20 messages.
-shown (record_of.Up d) = record { slot = d.ends.slot; neighbour = d.ends.neighbour; state = up (held d.window) }
+shown (record_of.Up d) = watching up d.watch
+
+-- The name of a state.
+abbrev pub state_text : State → List ℕ
+state_text (down n) = codes "down"
+state_text (ready w) = codes "ready"
+state_text (up w) = codes "up"
 
 -- A record in Down with no message heard, of this slot and this neighbour.
 abbrev pub fresh : ℕ → ℕ → Shown
@@ -42,10 +53,15 @@ abbrev pub keeping : (List Message → State) → Option (List Message) → Stat
 keeping in-state None = down 0
 keeping in-state (Some w) = in-state w
 
+-- What one more message leaves of a good line: the watch over it goes on, or it is Down.
+abbrev pub watched : (List Message → State) → Result Watch Down → Shown
+watched in-state (Ok w) = watching in-state w
+watched in-state (Err d) = shown (record_of.Down d)
+
 -- The state after one more message.
 abbrev pub moved : State → Message → State
 -- In Down a message heard counts, and the 30th in a row makes the line Ready, with none of the last 20 missed.
-moved (down n) Heard = cond (n + 1 == 30) (ready clear) (down (n + 1))
+moved (down n) Heard = if n + 1 == 30 then ready clear else down (n + 1)
 -- In Down a message missed ends the row.
 moved (down n) Missed = down 0
 -- In Ready a message joins the last 20.
@@ -72,11 +88,11 @@ pub record Outcome : Type 0 where
   pub notice : Bool
 
 -- What each answer to the other end's word says.
-abbrev pub outcome : Told → Outcome
+abbrev pub outcome : Result Up Record → Outcome
 -- The record is in Up, and a notice is due.
-outcome (told_of.Notice u) = record { says = shown (record_of.Up u); notice = true }
+outcome (Ok u) = record { says = shown (record_of.Up u); notice = true }
 -- The record is this one, and no notice is due.
-outcome (told_of.Same r) = record { says = shown r; notice = false }
+outcome (Err r) = record { says = shown r; notice = false }
 
 -- The state after the other end's word that it is not Down.
 abbrev pub confirmed : State → State

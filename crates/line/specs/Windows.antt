@@ -1,13 +1,13 @@
 -- The last 20 messages, and the mask that holds them.
-use Rattle.std.specs.Prelude.{ℕ, zero, suc, ◌/◌, ◌%◌, cond, List, [], ◌∷◌, ◌++◌, Some, None, Option}
+use Rattle.std.specs.Prelude.{ℕ, zero, suc, ◌/◌, ◌%◌, if◌then◌else◌, List, [], ◌∷◌, ◌++◌, Some, None, Option}
 use Rattle.line.specs.Messages.{last, failing}
 use Rattle.line.specs.declared.messages.Message.{Message}
 use Rattle.line.specs.declared.messages.Message.TheVariants.{Heard, Missed}
-use Rattle.line.specs.declared.states.Window.{Window}
+use Rattle.line.specs.declared.window.Window.{Window}
 
 -- The last 20 messages with one more; none where three or more of them were missed.
 abbrev pub pushed : List Message → Message → Option (List Message)
-pushed w m = cond (failing (w ++ m ∷ [])) None (Some (last 20 (w ++ m ∷ [])))
+pushed w m = if failing (w ++ m ∷ []) then None else Some (last 20 (w ++ m ∷ []))
 
 -- The bit that stands for a message: 1 if it was missed.
 abbrev pub bit_of : Message → ℕ

@@ -1,8 +1,11 @@
-ghost use Rattle.std.specs.Prelude.{◌≡◌};
-ghost use Rattle.line.specs.Moves.{shown, after_message, after_word, outcome};
+ghost use Rattle.std.specs.Prelude.{◌≡◌, List};
+ghost use Rattle.line.specs.Moves.{State, shown, watching, watched, keeping, after_message, after_word, outcome};
+ghost use Rattle.line.specs.Windows.{held, pushed};
+ghost use Rattle.line.specs.declared.messages.Message.{Message};
 
 use crate::messages::Message;
-use crate::states::{Down, Ready, Record, Told, Up, Window};
+use crate::states::{Down, Ready, Record, Up, Watch};
+use crate::window::Window;
 
 // So many messages heard in a row make a line Ready.
 const IN_A_ROW: u8 = 30;
@@ -15,14 +18,29 @@ impl Down {
         let Down { ends, heard } = self;
         match message {
             Message::Missed => Record::Down(Down::fresh(ends)),
-            Message::Heard if heard + 1 == IN_A_ROW => Record::Ready(Ready {
-                ends,
-                window: Window::new(),
-            }),
+            Message::Heard if heard + 1 == IN_A_ROW => {
+                let window = Window::new();
+                Record::Ready(Ready {
+                    watch: Watch { ends, window },
+                })
+            }
             Message::Heard => Record::Down(Down {
                 ends,
                 heard: heard + 1,
             }),
+        }
+    }
+}
+
+impl Watch {
+    // One test message more: the watch goes on, or the line goes Down.
+    fn after(self, message: Message) -> Result<Watch, Down>
+        ensures { (in_state : List Message → State) → watched in_state result ≡ record (watching in_state self) { state = keeping in_state (pushed (held self.window) message) } }
+    {
+        let Watch { ends, window } = self;
+        match window.after(message) {
+            Some(window) => Ok(Watch { ends, window }),
+            None => Err(Down::fresh(ends)),
         }
     }
 }
@@ -32,19 +50,16 @@ impl Ready {
     pub fn after(self, message: Message) -> Record
         ensures { shown result ≡ after_message (shown (Record.Ready self)) message }
     {
-        let Ready { ends, window } = self;
-        match window.after(message) {
-            Some(window) => Record::Ready(Ready { ends, window }),
-            None => Record::Down(Down::fresh(ends)),
-        }
+        self.watch
+            .after(message)
+            .map_or_else(Record::Down, |watch| Record::Ready(Ready { watch }))
     }
 
     // The other end tells that it is not Down: a notice to it is due.
     pub fn told(self) -> Up
-        ensures { outcome (Told.Notice result) ≡ after_word (shown (Record.Ready self)) }
+        ensures { outcome (Ok result) ≡ after_word (shown (Record.Ready self)) }
     {
-        let Ready { ends, window } = self;
-        Up { ends, window }
+        Up { watch: self.watch }
     }
 }
 
@@ -53,16 +68,14 @@ impl Up {
     pub fn after(self, message: Message) -> Record
         ensures { shown result ≡ after_message (shown (Record.Up self)) message }
     {
-        let Up { ends, window } = self;
-        match window.after(message) {
-            Some(window) => Record::Up(Up { ends, window }),
-            None => Record::Down(Down::fresh(ends)),
-        }
+        self.watch
+            .after(message)
+            .map_or_else(Record::Down, |watch| Record::Up(Up { watch }))
     }
 }
 
 impl Record {
-    // One test message more.
+    // One test message more. A match: the states are these three, and each has its own step.
     pub fn after(self, message: Message) -> Record
         ensures { shown result ≡ after_message (shown self) message }
     {
@@ -73,28 +86,14 @@ impl Record {
         }
     }
 
-    // A test message was heard.
-    pub fn heard(self) -> Record
-        ensures { shown result ≡ after_message (shown self) Message.Heard }
-    {
-        self.after(Message::Heard)
-    }
-
-    // A test message was missed.
-    pub fn missed(self) -> Record
-        ensures { shown result ≡ after_message (shown self) Message.Missed }
-    {
-        self.after(Message::Missed)
-    }
-
-    // The other end tells that it is not Down.
-    pub fn told(self) -> Told
+    // The other end tells that it is not Down: Ready becomes Up, and a notice to the other end is due; any other record is
+    // given back as it was, and no notice is due.
+    pub fn told(self) -> Result<Up, Record>
         ensures { outcome result ≡ after_word (shown self) }
     {
         match self {
-            Record::Down(down) => Told::Same(Record::Down(down)),
-            Record::Ready(ready) => Told::Notice(ready.told()),
-            Record::Up(up) => Told::Same(Record::Up(up)),
+            Record::Ready(ready) => Ok(ready.told()),
+            other => Err(other),
         }
     }
 }

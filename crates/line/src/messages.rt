@@ -1,6 +1,6 @@
-// A test message that was due: it was heard, or it was missed.
-#[derive(Clone, Copy)]
+// A test message that was due: it was heard, or it was missed. As a number it is its bit in a window.
+#[derive(Clone, Copy, Debug, PartialEq, Eq)]
 pub enum Message {
-    Heard,
-    Missed,
+    Heard = 0,
+    Missed = 1,
 }

@@ -1,4 +1,7 @@
-ghost use Rattle.std.specs.Prelude.{◌^◌, ◌<◌, ◌≤◌, count_ones};
+ghost use Rattle.std.specs.Prelude.{◌<◌, ◌≤◌};
+
+use crate::window::Window;
+use std::fmt;
 
 //             30 messages heard in a row              the other end's word: a notice is due
 //   new ──> Down ──────────────────────────────> Ready ──────────────────────────────> Up
@@ -7,7 +10,7 @@ ghost use Rattle.std.specs.Prelude.{◌^◌, ◌<◌, ◌≤◌, count_ones};
 //               three or more of the last 20 messages missed: Down with no message heard
 
 // Which line it is: the slot where it leaves this box, and the node at its other end. It never changes.
-#[derive(Drop)]
+#[derive(Debug, PartialEq, Eq, Drop)]
 pub(crate) struct Ends {
     pub(crate) slot: u8,
     pub(crate) neighbour: u8,
@@ -15,16 +18,15 @@ pub(crate) struct Ends {
     ghost nodes: { (1 ≤ neighbour) × (neighbour ≤ 64) },
 }
 
-// The last 20 messages, a bit for each: the newest is the lowest, and a message that was missed has a 1.
-#[derive(Drop)]
-pub(crate) struct Window {
-    pub(crate) missed: u32,
-    ghost narrow: { missed < 2 ^ 20 },
-    ghost few: { count_ones missed < 3 },
+// A good line, and what is watched of it.
+#[derive(Debug, PartialEq, Eq, Drop)]
+pub(crate) struct Watch {
+    pub(crate) ends: Ends,
+    pub(crate) window: Window,
 }
 
 // The line is not to be used. So many messages in a row were heard, up to now.
-#[derive(Drop)]
+#[derive(Debug, PartialEq, Eq, Drop)]
 pub struct Down {
     pub(crate) ends: Ends,
     pub(crate) heard: u8,
@@ -32,32 +34,57 @@ pub struct Down {
 }
 
 // This end finds the line good; the other end has still to tell that it is not Down.
-#[derive(Drop)]
+#[derive(Debug, PartialEq, Eq, Drop)]
 pub struct Ready {
-    pub(crate) ends: Ends,
-    pub(crate) window: Window,
+    pub(crate) watch: Watch,
 }
 
 // Both ends find the line good: its slot may be raised.
-#[derive(Drop)]
+#[derive(Debug, PartialEq, Eq, Drop)]
 pub struct Up {
-    pub(crate) ends: Ends,
-    pub(crate) window: Window,
+    pub(crate) watch: Watch,
+}
+
+impl Up {
+    ghost use Rattle.std.specs.Prelude.{◌≡◌};
+    ghost use Rattle.line.specs.Moves.{shown};
+
+    // The slot where the line leaves this box.
+    pub fn slot(&self) -> u8
+        ensures value { result ≡ (shown (Record.Up self.now)).slot }
+        ensures bound { (1 ≤ result) × (result ≤ 8) }
+    {
+        self.watch.ends.slot
+    }
+
+    // The node at the line's other end.
+    pub fn neighbour(&self) -> u8
+        ensures value { result ≡ (shown (Record.Up self.now)).neighbour }
+        ensures bound { (1 ≤ result) × (result ≤ 64) }
+    {
+        self.watch.ends.neighbour
+    }
 }
 
 // A record in one of its states, for who keeps one over many events.
-#[derive(Drop)]
+#[derive(Debug, PartialEq, Eq, Drop)]
 pub enum Record {
     Down(Down),
     Ready(Ready),
     Up(Up),
 }
 
-// What the other end's word leaves.
-#[derive(Drop)]
-pub enum Told {
-    // Ready became Up: a notice to the other end is due.
-    Notice(Up),
-    // The word changed nothing, and no notice is due.
-    Same(Record),
+impl fmt::Display for Record {
+    ghost use Rattle.std.specs.Prelude.{Some};
+    ghost use Rattle.line.specs.Moves.{shown, state_text};
+
+    ghost output = { λ r. Some (state_text (shown r).state) };
+
+    fn fmt<W: fmt::Write>(&self, f: &mut fmt::Formatter<W>) -> fmt::Result {
+        match self {
+            Record::Down(_) => write!(f, "down"),
+            Record::Ready(_) => write!(f, "ready"),
+            Record::Up(_) => write!(f, "up"),
+        }
+    }
 }

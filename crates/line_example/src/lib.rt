@@ -15,7 +15,7 @@ pub fn raisable(record: &Record) -> Option<(u8, u8)>
     ensures { result ≡ raisable_line (shown «record».now) }
 {
     match record {
-        Record::Up(up) => Some((Up::slot(up), Up::neighbour(up))),
+        Record::Up(up) => Some((up.slot(), up.neighbour())),
         Record::Ready(_) => None,
         Record::Down(_) => None,
     }
@@ -25,7 +25,7 @@ pub fn raisable(record: &Record) -> Option<(u8, u8)>
 pub fn shaken(record: Record) -> Record
     ensures { shown result ≡ after_message (after_message (shown «record») Message.Missed) Message.Heard }
 {
-    record.missed().heard()
+    record.after(Message::Missed).after(Message::Heard)
 }
 
 // A record in Down after 30 messages heard.
