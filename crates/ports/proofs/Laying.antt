@@ -1,11 +1,13 @@
 -- The row of some lines: one line more, and what it holds.
-use Rattle.std.proofs.Common.{◌≡◌, ℕ, suc, ◌-◌, ◌<◌, ◌≤◌, true, leb, List, [], ◌∷◌, ◌++◌, length, set, replicate, sym, refl, ap, ◌∙◌, ap₂, arith}
+use Rattle.std.proofs.Common.{◌≡◌, ℕ, suc, ◌-◌, ◌<◌, ◌≤◌, true, List, [], ◌∷◌, ◌++◌, length, set, replicate, sym, refl, ap, ◌∙◌, ap₂, arith}
 use Rattle.std.proofs.lemmas.List.{set_at, append_assoc, length_push, take_at}
-use Rattle.std.proofs.lemmas.Bool.{and_from, le-leb}
+use Rattle.std.proofs.lemmas.Bool.{cond-true, lt-ltb}
+use Rattle.std.proofs.lemmas.Bool.Decides.{nat_tests}
 use Rattle.wire.specs.declared.lines.Line.{Line}
 use Rattle.rows.specs.declared.row.Row.{Row}
 use Rattle.rows.specs.Rows.{no_line, lines_in, allowed, allowed_row}
-use Rattle.ports.specs.Rows.{row_of, pushed}
+use Rattle.rows.specs.Pushing.{has_room, pushed}
+use Rattle.ports.specs.Rows.{row_of}
 
 pub row_push : (xs : List Line) (x : Line) → length xs < 8 → pushed (row_of xs) x ≡ row_of (xs ++ x ∷ [])
 row_push xs x h =
@@ -18,12 +20,10 @@ row_push xs x h =
     ∙ sym (append_assoc xs (x ∷ []) (replicate (7 - length xs) no_line))
     ∙ ap (λ (k : ℕ). (xs ++ x ∷ []) ++ replicate k no_line) rest in
     let P : List Line → ℕ → Row = λ lines used. record { lines = lines; used = used } in
-    ap₂ P laid (sym longer)
+    cond-true (has_room (row_of xs)) _ (row_of xs) (lt-ltb (length xs) 8 h) ∙ ap₂ P laid (sym longer)
 
 pub row_lines : (xs : List Line) → lines_in (row_of xs) ≡ xs
 row_lines xs = take_at xs (replicate (8 - length xs) no_line) (length xs) refl
 
 pub row_allowed : (count node : ℕ) (xs : List Line) → length xs ≤ 8 → allowed count node 0 xs ≡ true → allowed_row count node (row_of xs) ≡ true
-row_allowed count node xs few good =
-    and_from (leb (length xs) 8) (allowed count node 0 (lines_in (row_of xs))) (le-leb (length xs) 8 few)
-    (ap (allowed count node 0) (row_lines xs) ∙ good)
+row_allowed count node xs few good = let same = row_lines xs in rw same (grind (arith, nat_tests))

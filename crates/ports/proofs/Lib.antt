@@ -1,6 +1,6 @@
 pub mod Placing
-pub mod Filling
-pub mod Scans
+pub mod Mapped
+pub mod Firsts
 pub mod Finding
 pub mod Rising
 pub mod Exactly

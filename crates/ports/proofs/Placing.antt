@@ -1,10 +1,10 @@
 -- Replacing one slot keeps the lines within the network and apart.
-use Rattle.std.proofs.Common.{◌≡◌, ℕ, zero, suc, ◌-◌, ◌<◌, ◌≤◌, Bool, false, ◌⊎◌, List, [], ◌∷◌, map, length, get_or, set, Some, sym, refl, ap, ◌∙◌, subst, inl, inr}
+use Rattle.std.proofs.Common.{◌≡◌, ℕ, zero, suc, ◌-◌, ◌<◌, ◌≤◌, Bool, false, ◌⊎◌, List, [], ◌∷◌, map, length, get_or, set, Some, None, sym, refl, ap, ◌∙◌, subst, inl, inr}
 use Rattle.std.proofs.lemmas.List.{get_or-set_same, get_or-set_other}
 use Rattle.std.proofs.lemmas.Bool.{cases_eq}
 use Rattle.slots.specs.Lines.{begun}
 use Rattle.ports.specs.Rows.{served}
-use Rattle.slots.specs.Slots.{State, unused, up, UpLine, neighbour_of}
+use Rattle.slots.specs.Slots.{State, UpLine, neighbour_of}
 use Rattle.ports.specs.Places.{neighbour_at, Within, Apart, Placeable}
 use Rattle.ports.proofs.Finding.{unserved}
 
@@ -13,8 +13,8 @@ at_set : (slots : List State) (i j n : ℕ) (x : State) → i < length slots →
     → ((j ≡ i) × (neighbour_of x ≡ Some n)) ⊎ (neighbour_at slots j ≡ Some n)
 at_set slots i j n x h e =
     elim (cases_eq j i) [
-      | inl same ↦ inl (same, sym (ap (λ (k : ℕ). neighbour_at (set slots i x) k) same ∙ ap neighbour_of (get_or-set_same slots i x unused h)) ∙ e)
-      | inr other ↦ inr (sym (ap neighbour_of (get_or-set_other slots i j x unused other)) ∙ e)
+      | inl same ↦ inl (same, sym (ap (λ (k : ℕ). neighbour_at (set slots i x) k) same ∙ ap neighbour_of (get_or-set_same slots i x None h)) ∙ e)
+      | inr other ↦ inr (sym (ap neighbour_of (get_or-set_other slots i j x None other)) ∙ e)
     ]
 
 module _ (count root : ℕ) (slots : List State) (number : ℕ) (x : State) (h : number - 1 < length slots) (fits : Placeable count root slots number x) where
@@ -38,14 +38,14 @@ module _ (count root : ℕ) (slots : List State) (number : ℕ) (x : State) (h :
 
 -- a line of the same neighbour as the slot had
 pub place_kept : (count root : ℕ) (slots : List State) (number : ℕ) (u v : UpLine) → Within count root slots → Apart slots
-    → get_or slots (number - 1) unused ≡ up u → v.neighbour ≡ u.neighbour → Placeable count root slots number (up v)
+    → get_or slots (number - 1) None ≡ Some u → v.neighbour ≡ u.neighbour → Placeable count root slots number (Some v)
 place_kept count root slots number u v within apart there same n e =
     let old : neighbour_at slots (number - 1) ≡ Some n = ap neighbour_of there ∙ ap Some (sym same) ∙ e in
     (within (number - 1) n old, λ j other. apart j (number - 1) (n, other, old))
 
 -- a line to a node that no slot serves
 pub place_new : (count root : ℕ) (slots : List State) (number : ℕ) (v : UpLine) → 1 ≤ v.neighbour → v.neighbour ≤ count → (v.neighbour ≡ root → ⊥)
-    → served v.neighbour slots ≡ false → Placeable count root slots number (up v)
+    → served v.neighbour slots ≡ false → Placeable count root slots number (Some v)
 place_new count root slots number v low high other new n e =
     let same : v.neighbour ≡ n = cc in (
       subst (λ k. (1 ≤ k) × (k ≤ count) × (k ≡ root → ⊥)) same (low, high, other),
@@ -55,10 +55,9 @@ place_new count root slots number v low high other new n e =
 -- a new period changes no neighbour
 begun_neighbour : (report : Bool) (slots : List State) (i : ℕ) → neighbour_at (map (begun report) slots) i ≡ neighbour_at slots i
 begun_neighbour report [] i = refl
-begun_neighbour report (unused ∷ slots) zero = refl
-begun_neighbour report (up u ∷ slots) zero = refl
-begun_neighbour report (unused ∷ slots) (suc i) = begun_neighbour report slots i
-begun_neighbour report (up u ∷ slots) (suc i) = begun_neighbour report slots i
+begun_neighbour report (None ∷ slots) zero = refl
+begun_neighbour report (Some u ∷ slots) zero = refl
+begun_neighbour report (s ∷ slots) (suc i) = begun_neighbour report slots i
 
 module _ (report : Bool) (slots : List State) where
   pub begun_within : (count root : ℕ) → Within count root slots → Within count root (map (begun report) slots)

@@ -1,10 +1,10 @@
 -- Raising, dropping and noting: the questions in their order, and what a call leaves.
-use Rattle.std.specs.Prelude.{ℕ, not, List, Ok, Err, Result, ◌==◌, nat_le}
+use Rattle.std.specs.Prelude.{ℕ, not, List, Some, None, Result, ok_or, ◌==◌, nat_le}
 use Rattle.line.specs.declared.states.Up.{Up}
 use Rattle.line.specs.declared.states.Record.TheVariants as record_of
 use Rattle.line.specs.Moves as moves
 use Rattle.slots.specs.Refusals.{ask, after, on_ok}
-use Rattle.slots.specs.Slots.{UpLine, State, unused, up, is_up}
+use Rattle.slots.specs.Slots.{UpLine, State, is_up}
 use Rattle.slots.specs.Lines.{supplied, raised_line, delayed, noted}
 use Rattle.ports.specs.Held.{Held, is_slot, slot_at, put}
 use Rattle.ports.specs.Rows.{served, reporting}
@@ -26,20 +26,15 @@ raising h s neighbour speed propagation =
     (ask (not (neighbour == h.root)) refusal.NeighbourIsRoot
     (ask (not (is_up (slot_at h.slots s))) refusal.SlotInUse
     (ask (not (served neighbour h.slots)) refusal.NeighbourServed
-    (on_ok (λ c. reporting (put s (up (raised_line neighbour c)) h)) (supplied speed propagation)))))
-
--- The line of a slot that has to be up.
-abbrev pub up_only : State → Result UpLine Refusal
-up_only unused = Err refusal.SlotNotUp
-up_only (up u) = Ok u
+    (on_ok (λ c. reporting (put s (Some (raised_line neighbour c)) h)) (supplied speed propagation)))))
 
 -- Slot in 1 to 8? Slot up? Then this is its line.
 abbrev pub up_line_at : List State → ℕ → Result UpLine Refusal
-up_line_at slots s = ask (is_slot s) refusal.SlotOutOfRange (up_only (slot_at slots s))
+up_line_at slots s = ask (is_slot s) refusal.SlotOutOfRange (ok_or (slot_at slots s) refusal.SlotNotUp)
 
 -- Dropping: slot in 1 to 8? Slot up? Then the slot is unused, and an own report is made.
 abbrev pub dropping : Held → ℕ → Result Held Refusal
-dropping h s = on_ok (λ _. reporting (put s unused h)) (up_line_at h.slots s)
+dropping h s = on_ok (λ _. reporting (put s None h)) (up_line_at h.slots s)
 
 -- What a noting gives: what is held then, and the packet's delay.
 pub record Noting : Type 0 where
@@ -51,7 +46,7 @@ abbrev pub noting_on : Held → ℕ → ℕ → ℕ → ℕ → Result Noting Re
 noting_on h s arrived sent words =
     after (up_line_at h.slots s) (λ u.
     after (delayed u arrived sent words) (λ d.
-    on_ok (λ v. record { leaves = put s (up v) h; delay = d }) (noted u d)))
+    on_ok (λ v. record { leaves = put s (Some v) h; delay = d }) (noted u d)))
 
 -- What is held after a noting.
 abbrev pub leaves_of : Noting → Held

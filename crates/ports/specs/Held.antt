@@ -1,6 +1,6 @@
 -- What a node holds of its own lines.
-use Rattle.std.specs.Prelude.{ℕ, ◌-◌, Bool, cond, ◌&&◌, List, map, replicate, nat_le, slice_index_or, slice_set}
-use Rattle.slots.specs.Slots.{State, unused, shown}
+use Rattle.std.specs.Prelude.{ℕ, ◌-◌, Bool, ◌&&◌, List, map, replicate, None, if◌then◌else◌, nat_le, slice_index_or, slice_set}
+use Rattle.slots.specs.Slots.{State, shown}
 use Rattle.slots.specs.Thresholds.{threshold_of, first}
 use Rattle.ports.specs.declared.ports.Ports.{Ports}
 
@@ -17,7 +17,7 @@ held p = record { count = p.count; root = p.root; slots = map shown p.slots; thr
 
 -- At first all eight slots are unused, and the threshold is 640.
 abbrev pub fresh : ℕ → ℕ → Held
-fresh count root = record { count = count; root = root; slots = replicate 8 unused; threshold = first }
+fresh count root = record { count = count; root = root; slots = replicate 8 None; threshold = first }
 
 -- Slots are numbered 1 to 8.
 abbrev pub is_slot : ℕ → Bool
@@ -25,8 +25,8 @@ is_slot s = nat_le 1 s && nat_le s 8
 
 -- The slot of a number; unused where no slot has it.
 abbrev pub slot_at : List State → ℕ → State
-slot_at slots s = cond (is_slot s) (slice_index_or slots (s - 1) unused) unused
+slot_at slots s = if is_slot s then slice_index_or slots (s - 1) None else None
 
 -- The slot of a number replaced, and nothing else.
 abbrev pub put : ℕ → State → Held → Held
-put s x h = record { count = h.count; root = h.root; slots = slice_set h.slots (s - 1) x; threshold = h.threshold }
+put s x h = record h { slots = slice_set h.slots (s - 1) x }

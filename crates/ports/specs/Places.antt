@@ -1,10 +1,10 @@
 -- The slots of one node beside one another.
-use Rattle.std.specs.Prelude.{◌≡◌, ℕ, ◌-◌, ◌≤◌, List, Some, Option, ◌≢◌, slice_index_or}
-use Rattle.slots.specs.Slots.{State, unused, neighbour_of}
+use Rattle.std.specs.Prelude.{◌≡◌, ℕ, ◌-◌, ◌≤◌, List, Some, None, Option, ◌≢◌, slice_index_or}
+use Rattle.slots.specs.Slots.{State, neighbour_of}
 
 -- The neighbour at a place, counted from 0.
 abbrev pub neighbour_at : List State → ℕ → Option ℕ
-neighbour_at slots i = neighbour_of (slice_index_or slots i unused)
+neighbour_at slots i = neighbour_of (slice_index_or slots i None)
 
 -- Lines go to other nodes of the network: numbers from 1 to the count, and not the root.
 abbrev pub Within : ℕ → ℕ → List State → Type 0

@@ -9,33 +9,24 @@ ghost use Rattle.slots.specs.Thresholds.{threshold_of};
 
 use crate::ports::Ports;
 use rows::row::Row;
-use slots::slot::Slot;
+use slots::port::Slot;
 use slots::threshold::Threshold;
 
 // Whether a report is due.
 fn is_due(threshold: Threshold, slots: &[Slot; 8]) -> bool
     ensures { result ≡ due (threshold_of threshold) (map shown slots.now) }
 {
-    if threshold.is_zero() {
-        return true;
-    }
-    for i in 0..8 {
-        if slots[i].moved(threshold) {
-            return true;
-        }
-    }
-    false
+    threshold.is_zero()
+        || slots
+            .iter()
+            .any(|slot| slot.is_some_and(|port| port.moved(threshold)))
 }
 
 // The slots as a new period begins.
 fn all_begun(slots: [Slot; 8], report: bool) -> [Slot; 8]
     ensures { map shown result ≡ map (begun report) (map shown slots) }
 {
-    let mut slots = slots;
-    for i in 0..8 {
-        slots[i] = slots[i].begun(report);
-    }
-    slots
+    slots.map(|slot| slot.map(|port| port.begun(report)))
 }
 
 impl Ports {
@@ -48,6 +39,6 @@ impl Ports {
         let due = is_due(self.threshold, &self.slots);
         self.threshold = self.threshold.after_period(due);
         self.slots = all_begun(self.slots, due);
-        if due { Some(self.own_row()) } else { None }
+        due.then(|| self.own_row())
     }
 }

@@ -1,7 +1,6 @@
 // A node's own lines: eight slots, and what a node does with them between its reports.
 //
-//   ports.rt      Ports: the slots, the threshold, and what always holds of them; start here
-//   asking.rt     fresh ports; which slots are up, and to whom
+//   ports.rt      Ports: the slots, the threshold, and what always holds of them; which slots are up, and to whom; start here
 //   calls.rt      raising and dropping a slot, noting a delay on it
 //   closing.rt    closing a period: the averages, and whether a report is due
 //   reporting.rt  the lines of an own report, in rising order of neighbour
@@ -12,7 +11,6 @@
 
 #![tactic(auto)]
 
-mod asking;
 mod calls;
 mod closing;
 pub mod ports;

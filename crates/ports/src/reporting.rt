@@ -1,57 +1,37 @@
 // The lines of an own report.
-ghost use Rattle.std.specs.Prelude.{◌≡◌, ◌<◌, map};
-ghost use Rattle.std.specs.Option.{option_map};
-ghost use Rattle.timing.specs.Ranges.{delay_of};
+ghost use Rattle.std.specs.Prelude.{◌≡◌, map, option_map};
+ghost use Rattle.timing.specs.Ranges.{units_of};
 ghost use Rattle.ports.specs.Held.{held};
-ghost use Rattle.ports.specs.Rows.{figure_to, own_row, reporting, Own, pushed};
+ghost use Rattle.ports.specs.Rows.{figure_to, own_row, reporting, Own};
 ghost use Rattle.slots.specs.Slots.{shown};
 
 use crate::ports::Ports;
 use rows::row::Row;
-use slots::slot::Slot;
+use slots::port::Slot;
 use slots::threshold::Threshold;
-use timing::types::Delay;
+use timing::quantity::Delay;
 use wire::lines::Line;
-
-// The row with one line more.
-fn with_line(row: Row, line: Line) -> Row
-    requires { row.used < 8 }
-    ensures { result ≡ pushed row line }
-{
-    let mut row = row;
-    row.lines[row.used as usize] = line;
-    row.used += 1;
-    row
-}
 
 // The reported figure of the slot that is up to a node.
 pub(crate) fn figure_to(slots: &[Slot; 8], node: u8) -> Option<Delay>
-    ensures { option_map delay_of result ≡ figure_to node (map shown slots.now) }
+    ensures { option_map units_of result ≡ figure_to node (map shown slots.now) }
 {
-    for i in 0..8 {
-        if let Some(figure) = slots[i].figure_for(node) {
-            return Some(figure);
-        }
-    }
-    None
+    slots
+        .iter()
+        .find_map(|slot| slot.and_then(|port| port.figure_for(node)))
 }
 
 impl Ports {
-    // The up slots' lines, node by node: at most eight, since no two go to the same.
+    // The up slots' lines, node by node: at most eight, since no two go to the same. So they rise by themselves; slots sorted in
+    // place would be no plainer.
     pub(crate) fn own_row(&self) -> Row
         ensures { Own (held self.now) result }
     {
         let mut row = Row::new();
-        for number in 0..self.count {
-            let neighbour = number + 1;
+        for neighbour in 1..=self.count {
             if let Some(figure) = figure_to(&self.slots, neighbour) {
-                row = with_line(
-                    row,
-                    Line {
-                        neighbour,
-                        figure: figure.units(),
-                    },
-                );
+                let figure = figure.units();
+                row.push(Line { neighbour, figure }).unwrap();
             }
         }
         row

@@ -1,7 +1,6 @@
 -- What holds over any run of calls, told of their answers, the last one first.
-use Rattle.std.specs.Prelude.{◌≡◌, ℕ, ◌+◌, ◌*◌, ◌≤◌, Bool, true, false, cond, List, [], ◌∷◌, ◌++◌, length, ◌==◌}
-use Rattle.timing.specs.Periods.{total}
-use Rattle.slots.specs.Slots.{UpLine, up}
+use Rattle.std.specs.Prelude.{◌≡◌, ℕ, ◌+◌, ◌*◌, ◌≤◌, Bool, true, false, if◌then◌else◌, List, [], ◌∷◌, ◌++◌, length, sum, Some, ◌==◌}
+use Rattle.slots.specs.Slots.{UpLine}
 use Rattle.slots.specs.Thresholds.{first}
 use Rattle.ports.specs.Held.{Held, slot_at}
 use Rattle.ports_laws.specs.Runs.{Answer, raised, dropped, noted, closed, reported, refused}
@@ -41,7 +40,7 @@ SixthReports run = (later stretch earlier : List Answer) → run ≡ later ++ (s
 -- How many closings there were since the last own report, or since the start.
 abbrev pub closings_since : List Answer → ℕ
 closings_since [] = 0
-closings_since (a ∷ earlier) = cond (is_own a) 0 (closes a + closings_since earlier)
+closings_since (a ∷ earlier) = if is_own a then 0 else closes a + closings_since earlier
 
 -- The threshold is 640 less 128 for each closing since the last own report.
 abbrev pub ThresholdKept : Held → List Answer → Type 0
@@ -50,18 +49,18 @@ ThresholdKept h run = h.threshold + 128 * closings_since run ≡ first
 -- The delays noted on a slot since the last closing or its raising, whichever is later.
 abbrev pub noted_since : ℕ → List Answer → List ℕ
 noted_since slot [] = []
-noted_since slot (raised s ∷ earlier) = cond (s == slot) [] (noted_since slot earlier)
+noted_since slot (raised s ∷ earlier) = if s == slot then [] else noted_since slot earlier
 noted_since slot (dropped s ∷ earlier) = noted_since slot earlier
-noted_since slot (noted s d ∷ earlier) = cond (s == slot) (d ∷ noted_since slot earlier) (noted_since slot earlier)
+noted_since slot (noted s d ∷ earlier) = if s == slot then d ∷ noted_since slot earlier else noted_since slot earlier
 noted_since slot (closed report ∷ earlier) = []
 noted_since slot (reported ∷ earlier) = noted_since slot earlier
 noted_since slot (refused e ∷ earlier) = noted_since slot earlier
 
 -- A line has the sum and the count of these delays.
 pub record SumsUp (delays : List ℕ) (u : UpLine) : Type 0 where
-  pub adds : u.noted.sum ≡ total delays
+  pub adds : u.noted.sum ≡ sum delays
   pub counts : u.noted.count ≡ length delays
 
 -- Every up slot has the sum and the count of the delays noted on it since the last closing or its raising.
 abbrev pub SumsOfPeriod : Held → List Answer → Type 0
-SumsOfPeriod h run = (slot : ℕ) (u : UpLine) → slot_at h.slots slot ≡ up u → SumsUp (noted_since slot run) u
+SumsOfPeriod h run = (slot : ℕ) (u : UpLine) → slot_at h.slots slot ≡ Some u → SumsUp (noted_since slot run) u

@@ -1,14 +1,14 @@
 -- What single calls do to the line of an up slot.
-use Rattle.std.specs.Prelude.{ℕ, Bool, cond, Ok, Result}
-use Rattle.timing.specs.declared.types.Speed.{Speed}
-use Rattle.timing.specs.declared.types.Circuit.{Circuit}
+use Rattle.std.specs.Prelude.{ℕ, Bool, Ok, Result, option_map, if◌then◌else◌}
+use Rattle.timing.specs.declared.speed.Speed.{Speed}
+use Rattle.timing.specs.declared.circuit.Circuit.{Circuit}
 use Rattle.timing.specs.Limits.{longest, farthest}
 use Rattle.timing.specs.Speeds.{numbered}
 use Rattle.timing.specs.Ranges.{within, units_of}
 use Rattle.timing.specs.Delays.{packet_delay, resting_delay}
 use Rattle.timing.specs.Tallies.{nothing, noting, average_of}
 use Rattle.slots.specs.Refusals.{given}
-use Rattle.slots.specs.Slots.{UpLine, State, unused, up}
+use Rattle.slots.specs.Slots.{UpLine, State}
 use Rattle.slots.specs.declared.refusal.Refusal.{Refusal}
 use Rattle.slots.specs.declared.refusal.Refusal.TheVariants as refusal
 
@@ -48,7 +48,7 @@ delayed u arrived sent words =
 abbrev pub noted : UpLine → ℕ → Result UpLine Refusal
 noted u delay =
     given (noting u.noted delay) refusal.CountFull
-    (λ t. Ok (record { neighbour = u.neighbour; speed = u.speed; propagation = u.propagation; noted = t; reported = u.reported }))
+    (λ t. Ok (record u { noted = t }))
 
 -- The average of the line's period: the resting figure if nothing was noted.
 abbrev pub average : UpLine → ℕ
@@ -56,16 +56,8 @@ average u = average_of u.noted (resting_delay u.speed u.propagation)
 
 -- The line as a new period begins: nothing noted, and after a report the average as reported figure.
 abbrev pub begun_line : Bool → UpLine → UpLine
-begun_line reported u =
-    record {
-      neighbour = u.neighbour;
-      speed = u.speed;
-      propagation = u.propagation;
-      noted = nothing;
-      reported = cond reported (average u) u.reported;
-    }
+begun_line reported u = record u { noted = nothing; reported = if reported then average u else u.reported }
 
 -- The slot as a new period begins.
 abbrev pub begun : Bool → State → State
-begun reported unused = unused
-begun reported (up u) = up (begun_line reported u)
+begun reported = option_map (begun_line reported)

@@ -1,5 +1,5 @@
 -- The numbers of the refusals, and what "the first no decides" means.
-use Rattle.std.specs.Prelude.{ℕ, Bool, cond, Some, None, Ok, Err, Option, Result}
+use Rattle.std.specs.Prelude.{ℕ, Bool, if◌then◌else◌, Some, None, Ok, Err, Option, Result}
 use Rattle.slots.specs.declared.refusal.Refusal.{Refusal}
 use Rattle.slots.specs.declared.refusal.Refusal.TheVariants as refusal
 
@@ -30,7 +30,7 @@ number_of refusal.PropagationTooLong = 40
 
 -- A question: on yes what follows decides, on no the refusal.
 abbrev pub ask : {X : Type 0} → Bool → Refusal → Result X Refusal → Result X Refusal
-ask answer refused next = cond answer next (Err refused)
+ask answer refused next = if answer then next else Err refused
 
 -- A question whose yes brings a value, which what follows goes on with.
 abbrev pub given : {X Y : Type 0} → Option Y → Refusal → (Y → Result X Refusal) → Result X Refusal

@@ -1,11 +1,9 @@
 -- What a slot holds, as plain numbers.
-use Rattle.std.specs.Prelude.{ℕ, Bool, true, false, cond, Some, None, Option, ◌==◌}
-use Rattle.timing.specs.declared.types.Speed.{Speed}
-use Rattle.timing.specs.Ranges.{units_of, delay_of}
+use Rattle.std.specs.Prelude.{ℕ, Bool, Some, None, Option, ◌==◌, is_some, option_map, option_and_then, if◌then◌else◌}
+use Rattle.timing.specs.declared.speed.Speed.{Speed}
+use Rattle.timing.specs.Ranges.{units_of}
 use Rattle.timing.specs.Tallies.{Totals, totals}
-use Rattle.slots.specs.declared.slot.Port.{Port}
-use Rattle.slots.specs.declared.slot.Slot.{Slot}
-use Rattle.slots.specs.declared.slot.Slot.TheVariants as slot
+use Rattle.slots.specs.declared.port.Port.{Port}
 
 -- The line of an up slot: the node at its other end, its speed and propagation, what was noted in this period, and the figure last reported.
 pub record UpLine : Type 0 where
@@ -16,9 +14,8 @@ pub record UpLine : Type 0 where
   pub reported : ℕ
 
 -- A slot is unused, or up with its line.
-pub data State : Type 0 where
-  unused : State
-  up : UpLine → State
+abbrev pub State : Type 0
+State = Option UpLine
 
 -- What is held of a line, as plain numbers.
 abbrev pub line_of : Port → UpLine
@@ -28,25 +25,21 @@ line_of p =
       speed = p.circuit.speed;
       propagation = units_of p.circuit.propagation;
       noted = totals p.tally;
-      reported = delay_of p.reported;
+      reported = units_of p.reported;
     }
 
 -- What a slot holds, as plain numbers.
-abbrev pub shown : Slot → State
-shown slot.Unused = unused
-shown (slot.Up p) = up (line_of p)
+abbrev pub shown : Option Port → State
+shown = option_map line_of
 
 -- The slot is up.
 abbrev pub is_up : State → Bool
-is_up unused = false
-is_up (up u) = true
+is_up = is_some
 
 -- The neighbour of an up slot.
 abbrev pub neighbour_of : State → Option ℕ
-neighbour_of unused = None
-neighbour_of (up u) = Some u.neighbour
+neighbour_of = option_map (λ u. u.neighbour)
 
 -- The reported figure of a slot that is up to a node.
 abbrev pub figure_for : ℕ → State → Option ℕ
-figure_for n unused = None
-figure_for n (up u) = cond (u.neighbour == n) (Some u.reported) None
+figure_for n = option_and_then (λ u. if u.neighbour == n then Some u.reported else None)

@@ -1,6 +1,7 @@
 -- The threshold, and when a line has moved.
 use Rattle.std.specs.Prelude.{ℕ, ◌+◌, ◌-◌, Bool, true, false, nat_le}
-use Rattle.slots.specs.Slots.{State, unused, up}
+use Rattle.std.specs.Option.{option_map_or}
+use Rattle.slots.specs.Slots.{State}
 use Rattle.slots.specs.Lines.{average}
 use Rattle.slots.specs.declared.threshold.Threshold.{Threshold}
 
@@ -27,5 +28,4 @@ reached t reported average = nat_le t (difference average reported)
 
 -- The average of an up slot has moved away from its reported figure, by the rule; an unused slot has none.
 abbrev pub moved : ℕ → State → Bool
-moved t unused = false
-moved t (up u) = reached t u.reported (average u)
+moved t s = option_map_or (λ u. reached t u.reported (average u)) s false

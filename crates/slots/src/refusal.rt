@@ -1,20 +1,23 @@
 // Why a call is refused: the first question that is answered no.
-ghost use Rattle.std.specs.Prelude.{◌≡◌};
+ghost use Rattle.std.specs.Prelude.{◌≡◌, ◌++◌, Some, codes, decimal};
 ghost use Rattle.slots.specs.Refusals.{number_of};
 
-#[derive(Clone, Copy)]
+use std::error::Error;
+use std::fmt;
+
+#[derive(Clone, Copy, Debug, PartialEq, Eq)]
 pub enum Refusal {
-    SlotOutOfRange,
-    SlotNotUp,
-    WordsOutOfRange,
-    SentBeforeArrival,
-    CountFull,
-    NeighbourBeyondCount,
-    NeighbourIsRoot,
-    SlotInUse,
-    NeighbourServed,
-    SpeedUnknown,
-    PropagationTooLong,
+    SlotOutOfRange = 21,
+    SlotNotUp = 22,
+    WordsOutOfRange = 31,
+    SentBeforeArrival = 32,
+    CountFull = 33,
+    NeighbourBeyondCount = 35,
+    NeighbourIsRoot = 36,
+    SlotInUse = 37,
+    NeighbourServed = 38,
+    SpeedUnknown = 39,
+    PropagationTooLong = 40,
 }
 
 impl Refusal {
@@ -22,18 +25,16 @@ impl Refusal {
     pub fn number(self) -> u8
         ensures { result ≡ number_of self }
     {
-        match self {
-            Refusal::SlotOutOfRange => 21,
-            Refusal::SlotNotUp => 22,
-            Refusal::WordsOutOfRange => 31,
-            Refusal::SentBeforeArrival => 32,
-            Refusal::CountFull => 33,
-            Refusal::NeighbourBeyondCount => 35,
-            Refusal::NeighbourIsRoot => 36,
-            Refusal::SlotInUse => 37,
-            Refusal::NeighbourServed => 38,
-            Refusal::SpeedUnknown => 39,
-            Refusal::PropagationTooLong => 40,
-        }
+        self as u8
     }
 }
+
+impl fmt::Display for Refusal {
+    ghost output = { λ refusal. Some (codes "refused " ++ decimal (number_of refusal)) };
+
+    fn fmt<W: fmt::Write>(&self, f: &mut fmt::Formatter<W>) -> fmt::Result {
+        write!(f, "refused {}", self.number())
+    }
+}
+
+impl Error for Refusal {}

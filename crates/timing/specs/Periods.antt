@@ -1,16 +1,11 @@
 -- The laws of a period, over the list of all delays that were noted in it, the last one first.
-use Rattle.std.specs.Prelude.{◌≡◌, ℕ, ◌+◌, ◌*◌, ◌<◌, ◌≤◌, List, [], ◌∷◌, length, Some, None, Option}
-use Rattle.timing.specs.declared.types.Tally.{Tally}
+use Rattle.std.specs.Prelude.{◌≡◌, ℕ, ◌+◌, ◌*◌, ◌<◌, ◌≤◌, List, ◌∷◌, length, sum, Some, None, Option}
+use Rattle.timing.specs.declared.tally.Tally.{Tally}
 use Rattle.timing.specs.Limits.{fullest}
-
--- the sum of some delays
-abbrev pub total : List ℕ → ℕ
-total [] = 0
-total (d ∷ ds) = d + total ds
 
 -- a tally has the sum and the number of these delays
 pub record Tallies (delays : List ℕ) (t : Tally) : Type 0 where
-  pub adds : t.sum ≡ total delays
+  pub adds : t.sum ≡ sum delays
   pub counts : t.count ≡ length delays
 
 -- what becomes of the tally of some delays when one more is noted
@@ -22,8 +17,8 @@ NotedAfter delays delay (Some t) = Tallies (delay ∷ delays) t
 
 -- a is the whole part of the mean: a times their number is at most their sum, and a + 1 times it is more
 pub record Mean (delays : List ℕ) (a : ℕ) : Type 0 where
-  pub low : a * length delays ≤ total delays
-  pub high : total delays < (a + 1) * length delays
+  pub low : a * length delays ≤ sum delays
+  pub high : sum delays < (a + 1) * length delays
 
 -- a is the average of a period: the resting delay if there were no delays, else the whole part of their mean
 pub record Averages (delays : List ℕ) (resting a : ℕ) : Type 0 where

@@ -1,7 +1,7 @@
 -- The time that a line takes to send a packet, in units of 0.1 ms.
 use Rattle.std.specs.Prelude.{ℕ, ◌+◌, ◌-◌, ◌*◌, ◌/◌, ◌≤◌}
-use Rattle.timing.specs.declared.types.Speed.{Speed}
-use Rattle.timing.specs.declared.types.Speed.TheVariants.{Bits2400}
+use Rattle.timing.specs.declared.speed.Speed.{Speed}
+use Rattle.timing.specs.declared.speed.Speed.TheVariants.{Bits2400}
 use Rattle.timing.specs.Limits.{longest}
 use Rattle.timing.specs.Speeds.{rate}
 

@@ -1,7 +1,7 @@
 -- The speeds: their numbers, and how much they send.
-use Rattle.std.specs.Prelude.{ℕ, cond, List, [], ◌∷◌, Some, None, Option, ◌==◌}
-use Rattle.timing.specs.declared.types.Speed.{Speed}
-use Rattle.timing.specs.declared.types.Speed.TheVariants.{Bits2400, Bits4800, Bits9600, Bits19200, Bits50000, Bits56000, Bits64000, Bits230400}
+use Rattle.std.specs.Prelude.{ℕ, List, [], ◌∷◌, Option, ◌==◌, find}
+use Rattle.timing.specs.declared.speed.Speed.{Speed}
+use Rattle.timing.specs.declared.speed.Speed.TheVariants.{Bits2400, Bits4800, Bits9600, Bits19200, Bits50000, Bits56000, Bits64000, Bits230400}
 
 -- the number of a speed, and the bits that it sends in a second
 pub record Rating : Type 0 where
@@ -38,11 +38,6 @@ rate s = (rating s).bits
 abbrev pub speeds : List Speed
 speeds = Bits2400 ∷ Bits4800 ∷ Bits9600 ∷ Bits19200 ∷ Bits50000 ∷ Bits56000 ∷ Bits64000 ∷ Bits230400 ∷ []
 
--- the first of some speeds that has a number
-abbrev pub among : List Speed → ℕ → Option Speed
-among [] n = None
-among (s ∷ ss) n = cond (number_of s == n) (Some s) (among ss n)
-
 -- the speed that has a number; none if no speed has it
 abbrev pub numbered : ℕ → Option Speed
-numbered n = among speeds n
+numbered n = find (λ s. number_of s == n) speeds

@@ -1,6 +1,6 @@
 -- What is noted of a line in one period, and its average.
-use Rattle.std.specs.Prelude.{ℕ, ◌+◌, ◌/◌, cond, Some, None, Option, ◌==◌, nat_lt}
-use Rattle.timing.specs.declared.types.Tally.{Tally}
+use Rattle.std.specs.Prelude.{ℕ, ◌+◌, ◌/◌, if◌then◌else◌, Some, None, Option, ◌==◌, nat_lt}
+use Rattle.timing.specs.declared.tally.Tally.{Tally}
 use Rattle.timing.specs.Limits.{fullest}
 
 -- the sum of the delays that were noted, and how many they are
@@ -18,7 +18,7 @@ nothing = record { sum = 0; count = 0 }
 
 -- noting adds a delay to the sum and 1 to the count; a full count takes no more
 abbrev pub noting : Totals → ℕ → Option Totals
-noting t delay = cond (nat_lt t.count fullest) (Some (record { sum = t.sum + delay; count = t.count + 1 })) None
+noting t delay = if nat_lt t.count fullest then Some (record { sum = t.sum + delay; count = t.count + 1 }) else None
 
 -- the mean of some delays: their sum divided by their count, the fraction dropped
 abbrev pub mean_of : ℕ → ℕ → ℕ
@@ -26,4 +26,4 @@ mean_of sum count = sum / count
 
 -- the average of a period: the mean of its delays, or the resting delay if none was noted
 abbrev pub average_of : Totals → ℕ → ℕ
-average_of t resting = cond (t.count == 0) resting (mean_of t.sum t.count)
+average_of t resting = if t.count == 0 then resting else mean_of t.sum t.count

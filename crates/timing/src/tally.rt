@@ -1,23 +1,23 @@
-// The delays noted of a line in one period, and their average.
-ghost use Rattle.std.specs.Prelude.{◌≡◌, ℕ, ◌<◌, ◌≤◌, List, []};
-ghost use Rattle.std.specs.Option.{option_map};
+// What is noted of a line in one period, and its average.
+ghost use Rattle.std.specs.Prelude.{◌*◌, ◌≤◌};
 ghost use Rattle.timing.specs.Limits.{largest};
-ghost use Rattle.timing.specs.Periods.{Tallies, NotedAfter, Averages};
-ghost use Rattle.timing.specs.Ranges.{delay_of};
-ghost use Rattle.timing.specs.Tallies.{totals, nothing, noting, mean_of, average_of};
 
-use crate::types::{Delay, Tally};
+use crate::quantity::Delay;
 
-// The mean of some delays.
-fn mean(sum: u32, count: u16) -> u32
-    requires { 0 < count }
-    ensures { result ≡ mean_of sum count }
-{
-    sum / count as u32
+// What was noted of a line in one period: the sum of the packets' delays, and how many they are, at most 65,535.
+#[derive(Clone, Copy, Debug, PartialEq, Eq)]
+pub struct Tally {
+    sum: u32,
+    count: u16,
+    ghost least: { count ≤ sum },
+    ghost most: { sum ≤ largest * count },
 }
 
 impl Tally {
-    const MOST: u16 = 65_535;
+    ghost use Rattle.std.specs.Prelude.{◌≡◌, ℕ, List, [], option_map};
+    ghost use Rattle.timing.specs.Periods.{Tallies, NotedAfter, Averages};
+    ghost use Rattle.timing.specs.Ranges.{units_of, InRange};
+    ghost use Rattle.timing.specs.Tallies.{totals, nothing, noting, average_of};
 
     // Nothing noted yet.
     pub fn new() -> Tally
@@ -29,29 +29,25 @@ impl Tally {
 
     // The tally with one more delay; none if the count is full.
     pub fn noted(self, delay: Delay) -> Option<Tally>
-        ensures value { option_map totals result ≡ noting (totals self) (delay_of delay) }
-        ensures law { (delays : List ℕ) → Tallies delays self → NotedAfter delays (delay_of delay) result }
+        ensures value { option_map totals result ≡ noting (totals self) (units_of delay) }
+        ensures law { (delays : List ℕ) → Tallies delays self → NotedAfter delays (units_of delay) result }
     {
-        if self.count >= Self::MOST {
-            return None;
-        }
-        Some(Tally {
-            sum: self.sum + delay.units as u32,
-            count: self.count + 1,
-        })
+        let count = self.count.checked_add(1)?;
+        let sum = self.sum + u32::from(delay.units());
+        Some(Tally { sum, count })
     }
 
     // The average of the period: of its delays, or the resting delay of the line if none was noted.
     pub fn average(self, resting: Delay) -> Delay
-        ensures value { delay_of result ≡ average_of (totals self) (delay_of resting) }
-        ensures law { (delays : List ℕ) → Tallies delays self → Averages delays (delay_of resting) (delay_of result) }
-        ensures range { (1 ≤ delay_of result) × (delay_of result ≤ largest) }
+        ensures value { units_of result ≡ average_of (totals self) (units_of resting) }
+        ensures law { (delays : List ℕ) → Tallies delays self → Averages delays (units_of resting) (units_of result) }
+        ensures range { InRange result }
     {
         if self.count == 0 {
             return resting;
         }
         Delay {
-            units: mean(self.sum, self.count) as u16,
+            units: (self.sum / u32::from(self.count)) as u16,
         }
     }
 }

@@ -1,5 +1,6 @@
 -- What the rows of the table speak of.
-use Rattle.std.specs.Prelude.{ℕ, zero, suc, Bool, true, false, cond, ◌||◌, List, [], ◌∷◌, ◌==◌}
+use Rattle.std.specs.Prelude.{ℕ, zero, suc, Bool, true, false, if◌then◌else◌, List, [], ◌∷◌, Some, ◌==◌}
+use Rattle.std.specs.List.{list_any}
 use Rattle.entries.specs.declared.entry.Entry.{Entry}
 use Rattle.line.specs.Messages.{clear}
 use Rattle.line.specs.Moves.{State, down, ready, up, moved_by}
@@ -7,18 +8,12 @@ use Rattle.line.specs.declared.messages.Message.{Message}
 use Rattle.line.specs.declared.messages.Message.TheVariants.{Heard, Missed}
 use Rattle.ports.specs.Held.{Held}
 use Rattle.rows.specs.Rows.{no_row}
-use Rattle.slots.specs.Slots as slots
-use Rattle.timing.specs.declared.types.Speed.TheVariants.{Bits64000}
-
--- A number is in a list.
-abbrev pub among : ℕ → List ℕ → Bool
-among n [] = false
-among n (x ∷ xs) = n == x || among n xs
+use Rattle.timing.specs.declared.speed.Speed.TheVariants.{Bits64000}
 
 -- So many messages, counted from the first: those whose number is listed were missed, the others heard.
 abbrev pub missing : List ℕ → ℕ → ℕ → List Message
 missing ns first zero = []
-missing ns first (suc n) = cond (among first ns) Missed Heard ∷ missing ns (suc first) n
+missing ns first (suc n) = (if list_any (λ n. n == first) ns then Missed else Heard) ∷ missing ns (suc first) n
 
 -- A line is Down.
 abbrev pub is_down : State → Bool
@@ -40,6 +35,6 @@ measured threshold reported average =
     record {
       count = 4;
       root = 1;
-      slots = slots.up (record { neighbour = 2; speed = Bits64000; propagation = 0; noted = record { sum = average; count = 1 }; reported = reported }) ∷ [];
+      slots = Some (record { neighbour = 2; speed = Bits64000; propagation = 0; noted = record { sum = average; count = 1 }; reported = reported }) ∷ [];
       threshold = threshold;
     }

@@ -7,7 +7,7 @@ use Rattle.ports.specs.Closing.{closing_row}
 use Rattle.ports.specs.Rows.{row_of}
 use Rattle.spf.specs.Changes.{changed_count}
 use Rattle.spf.specs.Reckoning.{route_of, tree_of}
-use Rattle.timing.specs.declared.types.Speed.TheVariants.{Bits50000, Bits64000}
+use Rattle.timing.specs.declared.speed.Speed.TheVariants.{Bits50000, Bits64000}
 use Rattle.timing.specs.Sending.{sending_time}
 use Rattle.timing.specs.Tallies.{average_of}
 use Rattle.worked.specs.Agreement.{Row, gives}

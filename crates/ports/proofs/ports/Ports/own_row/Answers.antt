@@ -1,40 +1,46 @@
 -- Node by node, the row has the lines so far; at the end, all of them.
-use Rattle.std.proofs.Common.{◌≡◌, ℕ, ◌+◌, map, sym, ap, ◌∙◌, subst, arith}
-use Rattle.std.specs.Option.{option_map}
-use Rattle.timing.specs.Ranges.{delay_of}
-use Rattle.wire.specs.declared.lines.Line.{Line}
-use Rattle.rows.specs.declared.row.Row.{Row}
-use Rattle.ports.specs.Held.{held}
-use Rattle.ports.specs.Rows.{lines_to, row_of, pushed, Own}
-use Rattle.slots.specs.Slots.{shown}
-use Rattle.ports.proofs.Owning.{owned, space, row_same, row_more}
+use Rattle.std.proofs.Common.{◌≡◌, ℕ, ◌+◌, Some, Option, option_map, rules, sym, ap, ◌∙◌, subst, arith}
+use Rattle.timing.specs.Ranges.{units_of}
+use Rattle.timing.specs.declared.quantity.Quantity.{Quantity}
+use Rattle.ports.proofs.Owning.{Begun, done, without, room, with_line}
 use Rattle.ports.proofs.ports.Ports.own_row.Goals as goal
 use Rattle.ports.proofs.ports.Ports.own_row.Goals.{in-Some, in_default}
 
-pub with_line-row-requires : goal.with_line-row-requires
-with_line-row-requires c =
-    let h = space c.args.self.now c.loop-number.number (delay_of c.in-Some.figure) c.loop-number-test.true (sym c.in-Some.ensures) in
-    let used = ap (λ (r : Row). r.used) c.loop-number.invariant in
-    omega arith
+-- the figure that is written down is the one that was found
+found : {least most : ℕ} (o : Option (Quantity least most)) (q : Quantity least most) (n : ℕ) (f : Option ℕ) → option_map units_of o ≡ f → o ≡ Some q → n ≡ units_of q → f ≡ Some n
+found o q n f e is value = sym e ∙ ap (option_map units_of) is ∙ ap Some (sym value)
 
-pub loop-number-preserved : goal.loop-number-preserved
-loop-number-preserved c =
+pub unwrap-requires : goal.unwrap-requires
+unwrap-requires c =
+    let h = room c.args.self.now c.loop-neighbour.neighbour c.loop-neighbour.row c.loop-neighbour.invariant (omega arith) (units_of c.in-Some.figure) (sym c.in-Some.ensures) in
+    let free = c.push.ensures.room ∙ h in search rules
+
+pub loop-neighbour-preserved : goal.loop-neighbour-preserved
+loop-neighbour-preserved c =
     let p = c.args.self.now in
-    let n = c.loop-number.number in
+    let n = c.loop-neighbour.neighbour in
+    let row = c.loop-neighbour.row in
     elim c.match-figure_to.branch [
       | in-Some w ↦
-          let e = sym c.figure_to.ensures ∙ ap (option_map delay_of) w.in-Some.is in
-          let h = space p n (delay_of w.in-Some.figure) c.loop-number-test.true e in
-          let P : ℕ → Line = λ figure. record { neighbour = n + 1; figure = figure } in
-          w.row-is ∙ w.with_line-row.ensures ∙ ap (λ (f : ℕ). pushed c.loop-number.row (P f)) w.units.ensures.value
-          ∙ row_more (map shown p.slots) n c.loop-number.row c.loop-number.invariant (delay_of w.in-Some.figure) e h
+          with_line p n row c.loop-neighbour.invariant (omega arith) w.units-figure.result c.match-figure_to.row
+          (found _ w.in-Some.figure _ _ c.figure_to.ensures w.in-Some.is w.units-figure.ensures.value) (w.row-is ∙ w.push.ensures.row)
       | in_default w ↦
-          let e = sym c.figure_to.ensures ∙ ap (option_map delay_of) w.in_default.is in
-          w.row-is ∙ row_same (map shown p.slots) n c.loop-number.row c.loop-number.invariant e
+          subst (Begun p (n + 1)) (sym w.row-is) (without p n row c.loop-neighbour.invariant (omega arith) (sym c.figure_to.ensures ∙ ap (option_map units_of) w.in_default.is))
     ]
 
 pub returns : goal.returns
-returns c =
-    let end : c.loop-number.number ≡ c.args.self.now.count = omega arith in
-    let is = c.loop-number.invariant ∙ ap (λ (n : ℕ). row_of (lines_to n (map shown c.args.self.now.slots))) end in
-    subst (Own (held c.args.self.now)) (sym is) (owned c.args.self.now)
+returns c = done c.args.self.now c.loop-neighbour.neighbour c.loop-neighbour.row c.loop-neighbour.invariant (omega arith)
+
+pub returns-after-figure_to : goal.returns-after-figure_to
+returns-after-figure_to c =
+    let p = c.args.self.now in
+    let n = c.loop-neighbour.neighbour in
+    let row = c.loop-neighbour.row in
+    done p (n + 1) c.match-figure_to.row
+    (elim c.match-figure_to.branch [
+      | in-Some w ↦
+          with_line p n row c.loop-neighbour.invariant (omega arith) w.units-figure.result c.match-figure_to.row
+          (found _ w.in-Some.figure _ _ c.figure_to.ensures w.in-Some.is w.units-figure.ensures.value) (w.row-is ∙ w.push.ensures.row)
+      | in_default w ↦
+          subst (Begun p (n + 1)) (sym w.row-is) (without p n row c.loop-neighbour.invariant (omega arith) (sym c.figure_to.ensures ∙ ap (option_map units_of) w.in_default.is))
+    ]) (omega arith)

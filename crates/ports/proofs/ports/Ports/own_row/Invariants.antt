@@ -1,8 +1,6 @@
-use Rattle.std.proofs.Common.{◌≡◌, map}
-use Rattle.ports.specs.Rows.{lines_to, row_of}
-use Rattle.slots.specs.Slots.{shown}
+use Rattle.ports.proofs.Owning.{Begun}
 use Rattle.ports.proofs.ports.Ports.own_row.Given as goal
 
--- the lines to the nodes so far
-abbrev pub invariant-loop-number : goal.invariant-loop-number
-invariant-loop-number l = l.row ≡ row_of (lines_to l.number (map shown l.self.slots))
+-- the row has the lines to the nodes so far
+abbrev pub invariant-loop-neighbour : goal.invariant-loop-neighbour
+invariant-loop-neighbour l = Begun l.self l.neighbour l.row

@@ -5,17 +5,11 @@ use Rattle.slots.specs.Slots.{UpLine, shown, line_of}
 use Rattle.ports.proofs.Placing.{place_new}
 use Rattle.ports.proofs.ports.Ports.raise.Goals as goal
 
-pub put-requires : goal.put-requires
-put-requires c =
+pub put-requires-clause-fits : goal.put-requires-clause-fits
+put-requires-clause-fits c =
     let p = c.args.self.now in
     let new = line_of c.raised.result in
     let same : new.neighbour ≡ c.neighbour-neighbour.result = ap (λ (u : UpLine). u.neighbour) c.raised.ensures in
     let bound = c.neighbour-neighbour.ensures.bound in
-    let slot = c.slot-slot.ensures.bound in (
-      slot.0,
-      (
-        slot.1,
-        place_new p.count p.root (map shown p.slots) c.slot-slot.result new (omega (arith, same, bound.0)) (omega (arith, same, c.if-neighbour-self.false))
-            (λ e. c.if-neighbour-self-2.false (sym same ∙ e)) (ap (λ (n : ℕ). served n (map shown p.slots)) same ∙ sym c.if-serves.ensures),
-      ),
-    )
+    place_new p.count p.root (map shown p.slots) c.slot-slot.result new (omega (arith, same, bound.0)) (omega (arith, same, c.if-neighbour-self.false))
+    (λ e. c.if-neighbour-self-2.false (sym same ∙ e)) (ap (λ (n : ℕ). served n (map shown p.slots)) same ∙ sym c.if-serves.ensures)
