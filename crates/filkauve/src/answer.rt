@@ -2,122 +2,102 @@
 use crate::bench::Bench;
 use crate::command::{Command, Mistake};
 use line::messages::Message;
-use line::states::{Down, Record, Told};
+use line::states::{Down, Record};
 use script::encode_hex;
-use std::alloc::{AllocError, Global};
-use wire::fault::ReadFault;
-use wire::report::Report;
-use wire_write::rewrite::RewriteFault;
+use std::alloc::AllocError;
+use std::fmt;
+use wire::report::{Header, Report};
+use wire_write::rewrite::rewrite;
 
-pub(crate) fn answer(heap: Global, bench: &mut Bench, command: Command) -> Result<String, Mistake> {
-    match command {
-        Command::Read { bytes } => Ok(read(heap, bytes.as_slice())?),
-        Command::Rewrite { bytes, length } => Ok(rewrite(heap, bytes.as_slice(), length)?),
-        Command::Line { slot, neighbour } => Ok(new_line(heap, bench, slot, neighbour)?),
-        Command::Test {
-            slot,
-            message,
-            times,
-        } => test(heap, bench, slot, message, times),
-        Command::Told { slot } => told(heap, bench, slot),
-    }
-}
+// A report as the console prints it.
+#[derive(Drop)]
+struct ReportLine<'a>(Report<'a>);
 
-fn refused(heap: Global, number: u8) -> Result<String, AllocError> {
-    format!(in heap; "refused {number}")
-}
-
-fn refused_at(heap: Global, fault: ReadFault) -> Result<String, AllocError> {
-    let number = fault.question.number();
-    let place = fault.place;
-    format!(in heap; "refused {number} at {place}")
-}
-
-fn read(heap: Global, bytes: &[u8]) -> Result<String, AllocError> {
-    match Report::read(bytes) {
-        Ok(report) => show_report(heap, &report),
-        Err(fault) => refused_at(heap, fault),
-    }
-}
-
-fn show_report(heap: Global, report: &Report) -> Result<String, AllocError> {
-    let header = report.header;
-    let origin = header.origin;
-    let serial = header.serial;
-    let age = header.age;
-    let retry = u8::from(header.retry);
-    let mut text = format!(in heap;
-        "report origin {origin} serial {serial} age {age} retry {retry} lines"
-    )?;
-    if report.pairs.is_empty() {
-        text.push_str(" none")?;
-    }
-    for line in report.lines() {
-        let neighbour = line.neighbour;
-        let figure = line.figure;
-        text.push_str(format!(in heap; " {neighbour}:{figure}")?.as_str())?;
-    }
-    Ok(text)
-}
-
-fn rewrite(heap: Global, bytes: &[u8], length: usize) -> Result<String, AllocError> {
-    let mut buffer = vec![in heap; 0u8; length]?;
-    match wire_write::rewrite::rewrite(bytes, &mut buffer) {
-        Ok(written) => {
-            let hex = encode_hex(heap, &buffer[0..written])?;
-            format!(in heap; "wrote {written} {hex}")
+impl fmt::Display for ReportLine<'_> {
+    fn fmt<W: fmt::Write>(&self, f: &mut fmt::Formatter<W>) -> fmt::Result {
+        let ReportLine(report) = self;
+        let Header {
+            origin,
+            serial,
+            age,
+            retry,
+        } = report.header;
+        let retry = u8::from(retry);
+        write!(
+            f,
+            "report origin {origin} serial {serial} age {age} retry {retry} lines"
+        )?;
+        if report.pairs.is_empty() {
+            write!(f, " none")?;
         }
-        Err(RewriteFault::Read(fault)) => refused_at(heap, fault),
-        Err(RewriteFault::Write(fault)) => refused(heap, fault.number()),
+        for line in report.lines() {
+            write!(f, " {}:{}", line.neighbour, line.figure)?;
+        }
+        Ok(())
     }
 }
 
-fn new_line(
-    heap: Global,
-    bench: &mut Bench,
-    slot: u8,
-    neighbour: u8,
-) -> Result<String, AllocError> {
-    match Down::new(slot, neighbour) {
-        Ok(down) => {
-            bench.keep(slot, Record::Down(down));
-            format!(in heap; "line {slot} down")
-        }
-        Err(refusal) => refused(heap, refusal.number()),
+impl Bench {
+    // The answer to a line; none to a blank line or a comment.
+    pub(crate) fn respond(&mut self, line: &[u8]) -> Result<Option<String>, Mistake> {
+        Command::parse(self.heap, line)?
+            .map(|command| self.answer(command))
+            .transpose()
     }
-}
 
-fn test(
-    heap: Global,
-    bench: &mut Bench,
-    slot: u8,
-    message: Message,
-    times: u32,
-) -> Result<String, Mistake> {
-    let record = bench.take(slot)?.repeated(message, times);
-    let state = state_name(&record);
-    bench.keep(slot, record);
-    Ok(format!(in heap; "line {slot} {state}")?)
-}
-
-fn told(heap: Global, bench: &mut Bench, slot: u8) -> Result<String, Mistake> {
-    match bench.take(slot)?.told() {
-        Told::Notice(up) => {
-            bench.keep(slot, Record::Up(up));
-            Ok(format!(in heap; "line {slot} up notice")?)
-        }
-        Told::Same(record) => {
-            let state = state_name(&record);
-            bench.keep(slot, record);
-            Ok(format!(in heap; "line {slot} {state}")?)
+    // A match: the commands are a closed set, and an arm names what it needs.
+    fn answer(&mut self, command: Command) -> Result<String, Mistake> {
+        match command {
+            Command::Read { bytes } => Ok(self.read(bytes.as_slice())?),
+            Command::Rewrite { bytes, length } => Ok(self.rewrite(bytes.as_slice(), length)?),
+            Command::Line { slot, neighbour } => Ok(self.line(slot, neighbour)?),
+            Command::Test {
+                slot,
+                message,
+                times,
+            } => self.test(slot, message, times),
+            Command::Told { slot } => self.told(slot),
         }
     }
-}
 
-fn state_name(record: &Record) -> &'static str {
-    match record {
-        Record::Down(_) => "down",
-        Record::Ready(_) => "ready",
-        Record::Up(_) => "up",
+    fn read(&self, bytes: &[u8]) -> Result<String, AllocError> {
+        match Report::read(bytes) {
+            Ok(report) => ReportLine(report).to_string(self.heap),
+            Err(fault) => fault.to_string(self.heap),
+        }
+    }
+
+    fn rewrite(&self, bytes: &[u8], length: usize) -> Result<String, AllocError> {
+        let mut buffer = vec![in self.heap; 0u8; length]?;
+        match rewrite(bytes, &mut buffer) {
+            Ok(written) => {
+                let hex = encode_hex(self.heap, &buffer[..written])?;
+                format!(in self.heap; "wrote {written} {hex}")
+            }
+            Err(fault) => fault.to_string(self.heap),
+        }
+    }
+
+    fn line(&mut self, slot: u8, neighbour: u8) -> Result<String, AllocError> {
+        match Down::new(slot, neighbour) {
+            Ok(down) => self.keep(slot, Record::Down(down)),
+            Err(refusal) => refusal.to_string(self.heap),
+        }
+    }
+
+    fn test(&mut self, slot: u8, message: Message, times: u32) -> Result<String, Mistake> {
+        let record = self.take(slot)?.repeated(message, times);
+        Ok(self.keep(slot, record)?)
+    }
+
+    fn told(&mut self, slot: u8) -> Result<String, Mistake> {
+        match self.take(slot)?.told() {
+            Ok(up) => {
+                let mut answer = self.keep(slot, Record::Up(up))?;
+                answer.push_str(" notice")?;
+                Ok(answer)
+            }
+            Err(record) => Ok(self.keep(slot, record)?),
+        }
     }
 }

@@ -1,8 +1,9 @@
 // A line of a script as a command.
 use line::messages::Message;
 use script::{Words, decode_hex, number};
-use std::alloc::{AllocError, AllocFailed, Global};
+use std::alloc::{AllocError, Global};
 use std::fmt;
+use thiserror::Error;
 
 // The buffers of the bench: their length where none is given, and at most.
 const LENGTH: u32 = 64;
@@ -35,90 +36,64 @@ pub(crate) enum Command {
     },
 }
 
-// Which command a line names.
-#[derive(Clone, Copy)]
+// Which command a line names. It prints as the command's form.
+#[derive(Clone, Copy, Debug)]
 pub(crate) enum Verb {
     Read,
     Rewrite,
     Line,
-    Heard,
-    Missed,
+    Test(Message),
     Told,
 }
 
-impl Verb {
-    fn named(name: &[u8]) -> Result<Verb, Mistake> {
+impl TryFrom<&[u8]> for Verb {
+    type Error = Mistake;
+
+    fn try_from(name: &[u8]) -> Result<Verb, Mistake> {
         match name {
             b"read" => Ok(Verb::Read),
             b"rewrite" => Ok(Verb::Rewrite),
             b"line" => Ok(Verb::Line),
-            b"heard" => Ok(Verb::Heard),
-            b"missed" => Ok(Verb::Missed),
+            b"heard" => Ok(Verb::Test(Message::Heard)),
+            b"missed" => Ok(Verb::Test(Message::Missed)),
             b"told" => Ok(Verb::Told),
             _ => Err(Mistake::UnknownCommand),
-        }
-    }
-
-    fn usage(self) -> &'static str {
-        match self {
-            Verb::Read => "read HEX",
-            Verb::Rewrite => "rewrite HEX [LENGTH]",
-            Verb::Line => "line SLOT NEIGHBOUR",
-            Verb::Heard => "heard SLOT [TIMES]",
-            Verb::Missed => "missed SLOT [TIMES]",
-            Verb::Told => "told SLOT",
         }
     }
 }
 
 impl fmt::Display for Verb {
     fn fmt<W: fmt::Write>(&self, f: &mut fmt::Formatter<W>) -> fmt::Result {
-        let usage = self.usage();
-        write!(f, "{usage}")
-    }
-}
-
-// Why a line is no command, or cannot be obeyed. A verb is the command that was meant.
-#[derive(Clone, Copy)]
-pub(crate) enum Mistake {
-    UnknownCommand,
-    TooFewWords(Verb),
-    TooManyWords(Verb),
-    NotHex(Verb),
-    NotNumber(Verb),
-    TooLarge(u32, Verb),
-    NoRecord(u8),
-    OutOfMemory,
-}
-
-impl fmt::Display for Mistake {
-    fn fmt<W: fmt::Write>(&self, f: &mut fmt::Formatter<W>) -> fmt::Result {
         match self {
-            Mistake::UnknownCommand => write!(
-                f,
-                "unknown command; there are read, rewrite, line, heard, missed and told"
-            ),
-            Mistake::TooFewWords(verb) => write!(f, "too few words: {verb}"),
-            Mistake::TooManyWords(verb) => write!(f, "too many words: {verb}"),
-            Mistake::NotHex(verb) => write!(f, "neither pairs of hexadecimal digits nor -: {verb}"),
-            Mistake::NotNumber(verb) => write!(f, "no number: {verb}"),
-            Mistake::TooLarge(limit, verb) => write!(f, "number above {limit}: {verb}"),
-            Mistake::NoRecord(slot) => write!(f, "no line record in slot {slot}"),
-            Mistake::OutOfMemory => write!(f, "out of memory"),
+            Verb::Read => write!(f, "read HEX"),
+            Verb::Rewrite => write!(f, "rewrite HEX [LENGTH]"),
+            Verb::Line => write!(f, "line SLOT NEIGHBOUR"),
+            Verb::Test(Message::Heard) => write!(f, "heard SLOT [TIMES]"),
+            Verb::Test(Message::Missed) => write!(f, "missed SLOT [TIMES]"),
+            Verb::Told => write!(f, "told SLOT"),
         }
     }
 }
 
-impl From<AllocError> for Mistake {
-    fn from(_e: AllocError) -> Mistake {
-        Mistake::OutOfMemory
-    }
-}
-
-impl<T: Drop> From<AllocFailed<T>> for Mistake {
-    fn from(_e: AllocFailed<T>) -> Mistake {
-        Mistake::OutOfMemory
-    }
+// Why a line is no command, or cannot be obeyed. A verb is the command that was meant.
+#[derive(Clone, Copy, Debug, Error)]
+pub(crate) enum Mistake {
+    #[error("unknown command; there are read, rewrite, line, heard, missed and told")]
+    UnknownCommand,
+    #[error("too few words: {0}")]
+    TooFewWords(Verb),
+    #[error("too many words: {0}")]
+    TooManyWords(Verb),
+    #[error("neither pairs of hexadecimal digits nor -: {0}")]
+    NotHex(Verb),
+    #[error("no number: {0}")]
+    NotNumber(Verb),
+    #[error("number above {0}: {1}")]
+    TooLarge(u32, Verb),
+    #[error("no line record in slot {0}")]
+    NoRecord(u8),
+    #[error("out of memory")]
+    OutOfMemory(#[from(alloc)] AllocError),
 }
 
 // The words behind the command's name, taken one by one.
@@ -131,28 +106,21 @@ struct Arguments<'a> {
 
 impl<'a> Arguments<'a> {
     fn word(&mut self) -> Result<&'a [u8], Mistake> {
-        match self.words.next() {
-            Some(word) => Ok(word),
-            None => Err(Mistake::TooFewWords(self.verb)),
-        }
+        self.words.next().ok_or(Mistake::TooFewWords(self.verb))
     }
 
     fn bytes(&mut self) -> Result<Vec<u8>, Mistake> {
-        let word = self.word()?;
-        match decode_hex(self.heap, word)? {
-            Some(bytes) => Ok(bytes),
-            None => Err(Mistake::NotHex(self.verb)),
-        }
+        decode_hex(self.heap, self.word()?)?.ok_or(Mistake::NotHex(self.verb))
+    }
+
+    fn number(&self, word: &[u8]) -> Result<u64, Mistake> {
+        number(word, u64::MAX).ok_or(Mistake::NotNumber(self.verb))
     }
 
     // A number that the call takes as a byte: a larger one goes in as the largest, and the call refuses it.
     fn byte(&mut self) -> Result<u8, Mistake> {
         let word = self.word()?;
-        match number(word, 255) {
-            Some(n) if n < 256 => Ok(n as u8),
-            Some(_) => Ok(255),
-            None => Err(Mistake::NotNumber(self.verb)),
-        }
+        Ok(u8::try_from(self.number(word)?).unwrap_or(u8::MAX))
     }
 
     // A number that may be left out, and has a limit.
@@ -160,78 +128,56 @@ impl<'a> Arguments<'a> {
         let Some(word) = self.words.next() else {
             return Ok(usual);
         };
-        match number(word, u64::MAX) {
-            Some(n) if n <= limit as u64 => Ok(n as u32),
-            Some(_) => Err(Mistake::TooLarge(limit, self.verb)),
-            None => Err(Mistake::NotNumber(self.verb)),
-        }
+        u32::try_from(self.number(word)?)
+            .ok()
+            .filter(|n| *n <= limit)
+            .ok_or(Mistake::TooLarge(limit, self.verb))
     }
 
     fn end(&mut self) -> Result<(), Mistake> {
-        match self.words.next() {
-            Some(_) => Err(Mistake::TooManyWords(self.verb)),
-            None => Ok(()),
+        if self.words.next().is_some() {
+            return Err(Mistake::TooManyWords(self.verb));
         }
+        Ok(())
+    }
+
+    // The command of which these are the words. A match: each verb asks for words of its own.
+    fn command(&mut self) -> Result<Command, Mistake> {
+        let command = match self.verb {
+            Verb::Read => Command::Read {
+                bytes: self.bytes()?,
+            },
+            Verb::Rewrite => Command::Rewrite {
+                bytes: self.bytes()?,
+                length: self.up_to(LENGTH_LIMIT, LENGTH)? as usize,
+            },
+            Verb::Line => Command::Line {
+                slot: self.byte()?,
+                neighbour: self.byte()?,
+            },
+            Verb::Test(message) => Command::Test {
+                slot: self.byte()?,
+                message,
+                times: self.up_to(TIMES_LIMIT, 1)?,
+            },
+            Verb::Told => Command::Told { slot: self.byte()? },
+        };
+        self.end()?;
+        Ok(command)
     }
 }
 
 impl Command {
     // The command that a line holds; none in a blank line or a comment.
     pub(crate) fn parse(heap: Global, line: &[u8]) -> Result<Option<Command>, Mistake> {
-        if let [b'#', ..] = line {
+        if line.starts_with(b"#") {
             return Ok(None);
         }
         let mut words = Words::new(line);
         let Some(name) = words.next() else {
             return Ok(None);
         };
-        let verb = Verb::named(name)?;
-        let arguments = Arguments { heap, words, verb };
-        let command = match verb {
-            Verb::Read => read(arguments)?,
-            Verb::Rewrite => rewrite(arguments)?,
-            Verb::Line => line_record(arguments)?,
-            Verb::Heard => test(arguments, Message::Heard)?,
-            Verb::Missed => test(arguments, Message::Missed)?,
-            Verb::Told => told(arguments)?,
-        };
-        Ok(Some(command))
+        let verb = Verb::try_from(name)?;
+        Ok(Some(Arguments { heap, words, verb }.command()?))
     }
-}
-
-fn read(mut arguments: Arguments) -> Result<Command, Mistake> {
-    let bytes = arguments.bytes()?;
-    arguments.end()?;
-    Ok(Command::Read { bytes })
-}
-
-fn rewrite(mut arguments: Arguments) -> Result<Command, Mistake> {
-    let bytes = arguments.bytes()?;
-    let length = arguments.up_to(LENGTH_LIMIT, LENGTH)? as usize;
-    arguments.end()?;
-    Ok(Command::Rewrite { bytes, length })
-}
-
-fn line_record(mut arguments: Arguments) -> Result<Command, Mistake> {
-    let slot = arguments.byte()?;
-    let neighbour = arguments.byte()?;
-    arguments.end()?;
-    Ok(Command::Line { slot, neighbour })
-}
-
-fn test(mut arguments: Arguments, message: Message) -> Result<Command, Mistake> {
-    let slot = arguments.byte()?;
-    let times = arguments.up_to(TIMES_LIMIT, 1)?;
-    arguments.end()?;
-    Ok(Command::Test {
-        slot,
-        message,
-        times,
-    })
-}
-
-fn told(mut arguments: Arguments) -> Result<Command, Mistake> {
-    let slot = arguments.byte()?;
-    arguments.end()?;
-    Ok(Command::Told { slot })
 }

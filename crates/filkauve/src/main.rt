@@ -12,26 +12,15 @@ mod answer;
 mod bench;
 mod command;
 
-use answer::answer;
 use bench::Bench;
-use command::{Command, Mistake};
-use std::alloc::Global;
 use std::io::{BufRead, BufReader};
-
-// The answer to a line; none to a blank line or a comment.
-fn respond(heap: Global, bench: &mut Bench, line: &[u8]) -> Result<Option<String>, Mistake> {
-    match Command::parse(heap, line)? {
-        Some(command) => Ok(Some(answer(heap, bench, command)?)),
-        None => Ok(None),
-    }
-}
 
 fn main(rt: HostRuntime) -> anyhow::Result<()> {
     let heap = rt.alloc();
-    let mut bench = Bench::new();
+    let mut bench = Bench::new(heap);
     for line in BufReader::new(heap, rt.stdin())?.split(heap, b'\n') {
         let line = line?;
-        match respond(heap, &mut bench, line.as_slice()) {
+        match bench.respond(line.as_slice()) {
             Ok(Some(text)) => println!(rt; "{text}")?,
             Ok(None) => {}
             Err(mistake) => println!(rt; "error {mistake}")?,

@@ -1,59 +1,74 @@
 -- What one byte more does to the digits and the bytes of a word, and the laws of bytes as words.
-use Rattle.std.proofs.Common.{◌≡◌, ℕ, ◌+◌, ◌*◌, ◌/◌, ◌%◌, ◌<◌, ◌≤◌, Bool, true, false, eqb, List, [], ◌∷◌, ◌++◌, map, length, get_or, drop, Some, None, Option, sym, refl, ap, ◌∙◌, append_assoc, arith}
+use Rattle.std.proofs.Common.{◌≡◌, ℕ, suc, ◌+◌, ◌-◌, ◌*◌, ◌/◌, ◌%◌, ◌^◌, ◌<◌, Bool, true, false, eqb, List, [], ◌∷◌, ◌++◌, map, length, get_or, drop, Some, None, Option, sym, refl, ap, ◌∙◌, append_assoc, arith}
 use native.Mathlib.Nat.{div-add-mod}
+use Rattle.std.specs.Char.{digit_value as char_value}
+use Rattle.std.specs.Fmt.{digits, digit_glyph, padded_integral, format_spec}
 use Rattle.std.specs.Option.{option_map}
+use Rattle.std.specs.Simd.{first_chunks}
 use Rattle.std.specs.List.{AllByRecursion}
 use Rattle.std.proofs.iter.runs.Lists.{none-some, same_Some}
+use Rattle.std.proofs.lemmas.Fmt.{hex_byte}
 use Rattle.std.proofs.lemmas.Nat.{div_below, mod_below, div-mul-add, mod-mul-add}
 use Rattle.std.proofs.lemmas.List.{drop_more}
-use Rattle.std.proofs.lemmas.Bool.{ne_eqb, eqb-true}
+use Rattle.std.proofs.lemmas.Bool.{eqb-true}
 use Rattle.std.proofs.lemmas.Bool.Decides.{nat_tests}
 use Rattle.script.specs.Hexadecimal.{digit_value, both, byte_of, pairs_of, bytes_of, digit_byte, digits_of, hex_of, lower, HexLaws}
 
--- two digits more
+-- two digits that were read
+digit_is : (b d : ℕ) → (char_value b < 16) × (d ≡ char_value b) → digit_value b ≡ Some d
+digit_is b d h = grind (arith, nat_tests)
+
+pub byte_is : (high low h l : ℕ) → (char_value high < 16) × (h ≡ char_value high) → (char_value low < 16) × (l ≡ char_value low)
+    → Some (16 * h + l) ≡ byte_of high low
+byte_is high low h l top end = rw (digit_is high h top, digit_is low l end) refl
+
+-- the bytes that pairs of digits stand for
+abbrev pub bytes_of_pairs : List (List ℕ) → Option (List ℕ)
+bytes_of_pairs [] = Some []
+bytes_of_pairs (p ∷ ps) = both (λ b bs. b ∷ bs) (byte_of (get_or p 0 0) (get_or p 1 0)) (bytes_of_pairs ps)
+
+pub even : (digits : List ℕ) → length digits % 2 ≡ 0 → pairs_of digits ≡ bytes_of_pairs (first_chunks 2 (length digits / 2) digits)
+even [] h = refl
+even (high ∷ []) h = absurd (omega arith)
+even (high ∷ (low ∷ rest)) h =
+    let n : length (high ∷ (low ∷ rest)) / 2 ≡ suc (length rest / 2) = omega arith in
+    rw n (ap (both (λ b bs. b ∷ bs) (byte_of high low)) (even rest (omega arith)))
+
+without_rest : (o : Option ℕ) → both (λ b bs. b ∷ bs) o None ≡ None
+without_rest None = refl
+without_rest (Some b) = refl
+
+pub odd : (digits : List ℕ) → length digits % 2 ≡ 1 → pairs_of digits ≡ None
+odd [] h = absurd (omega arith)
+odd (high ∷ []) h = refl
+odd (high ∷ (low ∷ rest)) h = ap (both (λ b bs. b ∷ bs) (byte_of high low)) (odd rest (omega arith)) ∙ without_rest (byte_of high low)
+
+-- one pair more
 regroup : (bs : List ℕ) (b : ℕ) (o : Option (List ℕ)) → option_map (λ more. (bs ++ b ∷ []) ++ more) o ≡ option_map (λ more. bs ++ more) (both (λ x xs. x ∷ xs) (Some b) o)
 regroup bs b None = refl
 regroup bs b (Some more) = ap Some (append_assoc bs (b ∷ []) more)
 
-pub byte_more : (before after rest : List ℕ) (b : ℕ) → 2 ≤ length rest → byte_of (get_or rest 0 0) (get_or rest 1 0) ≡ Some b → after ≡ before ++ b ∷ []
-    → option_map (λ more. after ++ more) (pairs_of (drop 2 rest)) ≡ option_map (λ more. before ++ more) (pairs_of rest)
-byte_more before after [] b h e is = absurd (omega arith)
-byte_more before after (high ∷ []) b h e is = absurd (omega arith)
-byte_more before after (high ∷ (low ∷ rest)) b h e is = rw e (ap (λ bs. option_map (λ more. bs ++ more) (pairs_of rest)) is ∙ regroup before b (pairs_of rest))
+module _ (pairs : List (List ℕ)) (i : ℕ) (inside : i < length pairs) where
+  abbrev here : Option ℕ
+  here = byte_of (get_or (get_or pairs i []) 0 0) (get_or (get_or pairs i []) 1 0)
 
--- which words are `-`, and which are digits
-pub no_word : (word : List ℕ) → length word ≡ 0 → None ≡ bytes_of word
-no_word [] h = refl
-no_word (b ∷ word) h = absurd (omega arith)
+  pub byte_more : (before after : List ℕ) (b : ℕ) → here ≡ Some b → after ≡ before ++ b ∷ []
+      → option_map (λ more. after ++ more) (bytes_of_pairs (drop (i + 1) pairs)) ≡ option_map (λ more. before ++ more) (bytes_of_pairs (drop i pairs))
+  byte_more before after b e is = rw (is, drop_more pairs i [], e) (regroup before b (bytes_of_pairs (drop (i + 1) pairs)))
 
-pub dash : (word bytes : List ℕ) → length word ≡ 1 → get_or word 0 0 ≡ 45 → bytes ≡ [] → Some bytes ≡ bytes_of word
-dash [] bytes h e none = absurd (omega arith)
-dash (b ∷ []) bytes h e none = rw (e, none) refl
-dash (b ∷ (d ∷ word)) bytes h e none = absurd (omega arith)
+  pub no_byte : (before : List ℕ) → here ≡ None → option_map (λ more. before ++ more) (bytes_of_pairs (drop i pairs)) ≡ None
+  no_byte before e = rw (drop_more pairs i [], e) refl
 
-pub no_dash : (word : List ℕ) → 0 < length word → (length word ≡ 1 → get_or word 0 0 ≡ 45 → ⊥) → pairs_of word ≡ bytes_of word
-no_dash [] h e = absurd (omega arith)
-no_dash (b ∷ []) h e = rw (ne_eqb b 45 (λ is. e refl is)) refl
-no_dash (high ∷ (low ∷ word)) h e = refl
+-- one byte more is written
+glyph : (n : ℕ) → n < 16 → digit_glyph false n ≡ digit_byte n
+glyph n h = grind (arith, nat_tests)
 
--- one byte more is written: first its high digit, then its low one
-pub record Pushes (b : ℕ) (before between after high low : List ℕ) : Type 0 where
-  pub first : between ≡ before ++ high
-  pub second : after ≡ between ++ low
-  pub top : high ≡ digit_byte (b / 16) ∷ []
-  pub end : low ≡ digit_byte (b % 16) ∷ []
-
-pub digits_more : {before between after high low : List ℕ} (bytes : List ℕ) (i : ℕ) → i < length bytes → Pushes (get_or bytes i 0) before between after high low
+pub digits_more : (before after bytes : List ℕ) (i : ℕ) → i < length bytes → get_or bytes i 0 < 256
+    → after ≡ before ++ padded_integral (format_spec 32 0 4 2 (2 ^ 64 - 1)) false [] (digits 16 false (get_or bytes i 0))
     → after ++ digits_of (drop (i + 1) bytes) ≡ before ++ digits_of (drop i bytes)
-digits_more bytes i h p = rw (drop_more bytes i 0, p.second, p.first, p.top, p.end) (simp append_assoc)
-
-pub hex_none : (bytes : List ℕ) → length bytes ≡ 0 → 45 ∷ [] ≡ hex_of bytes
-hex_none [] h = refl
-hex_none (b ∷ bytes) h = absurd (omega arith)
-
-pub hex_some : (bytes : List ℕ) → 0 < length bytes → digits_of bytes ≡ hex_of bytes
-hex_some [] h = absurd (omega arith)
-hex_some (b ∷ bytes) h = refl
+digits_more before after bytes i h fits written =
+    let b = get_or bytes i 0 in
+    rw (drop_more bytes i 0, written, hex_byte false b fits, glyph (b / 16) (div_below b 16 16 (omega arith) (omega arith)), glyph (b % 16) (mod_below b 16 (omega arith))) (simp append_assoc)
 
 -- a digit is read back
 digit_back : (d : ℕ) → d < 16 → digit_value (digit_byte d) ≡ Some d

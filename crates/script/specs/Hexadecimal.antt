@@ -1,11 +1,14 @@
 -- Which words are bytes, and how bytes are written.
-use Rattle.std.specs.Prelude.{◌≡◌, ℕ, ◌+◌, ◌-◌, ◌*◌, ◌/◌, ◌%◌, ◌<◌, cond, List, [], ◌∷◌, map, Some, None, Option, ◌==◌, nat_lt}
+use Rattle.std.specs.Prelude.{◌≡◌, ℕ, ◌+◌, ◌-◌, ◌*◌, ◌/◌, ◌%◌, ◌<◌, if◌then◌else◌, List, [], ◌∷◌, map, Some, None, Option, ◌==◌, nat_lt}
 use Rattle.std.specs.Int.{is_in_range}
 use Rattle.std.specs.List.{AllByRecursion}
 
 -- The value of a hexadecimal digit, of either case; no other byte has one.
 abbrev pub digit_value : ℕ → Option ℕ
-digit_value b = cond (is_in_range 48 57 b) (Some (b - 48)) (cond (is_in_range 97 102 b) (Some (b - 87)) (cond (is_in_range 65 70 b) (Some (b - 55)) None))
+digit_value b = if is_in_range 48 57 b then Some (b - 48)
+    else (if is_in_range 97 102 b then Some (b - 87)
+    else (if is_in_range 65 70 b then Some (b - 55)
+    else None))
 
 -- What follows from two values, where both are there.
 abbrev pub both : {X Y Z : Type 0} → (X → Y → Z) → Option X → Option Y → Option Z
@@ -26,12 +29,12 @@ pairs_of (high ∷ (low ∷ rest)) = both (λ b bs. b ∷ bs) (byte_of high low)
 -- The bytes that a word stands for: `-` for no bytes, else two digits or more.
 abbrev pub bytes_of : List ℕ → Option (List ℕ)
 bytes_of [] = None
-bytes_of (b ∷ []) = cond (b == 45) (Some []) None
+bytes_of (b ∷ []) = if b == 45 then Some [] else None
 bytes_of (high ∷ (low ∷ rest)) = pairs_of (high ∷ (low ∷ rest))
 
 -- The digit of a value below 16, in lower case.
 abbrev pub digit_byte : ℕ → ℕ
-digit_byte d = cond (nat_lt d 10) (48 + d) (87 + d)
+digit_byte d = if nat_lt d 10 then 48 + d else 87 + d
 
 -- The digits of bytes, two to each, the more significant first.
 abbrev pub digits_of : List ℕ → List ℕ
@@ -45,7 +48,7 @@ hex_of (b ∷ bs) = digits_of (b ∷ bs)
 
 -- A byte with an upper case letter made lower case.
 abbrev pub lower : ℕ → ℕ
-lower b = cond (is_in_range 65 90 b) (b + 32) b
+lower b = if is_in_range 65 90 b then b + 32 else b
 
 -- The laws of bytes as words.
 pub record HexLaws : Type 0 where

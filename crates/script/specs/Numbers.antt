@@ -1,11 +1,6 @@
 -- Which words are decimal numbers, and which number each is.
-use Rattle.std.specs.Prelude.{◌≡◌, ℕ, ◌+◌, ◌-◌, ◌*◌, ◌^◌, ◌<◌, min, cond, List, [], ◌∷◌, Some, None, decimal, Option}
-use Rattle.std.specs.Char.{is_ascii_digit}
+use Rattle.std.specs.Prelude.{◌≡◌, ℕ, ◌+◌, ◌-◌, ◌*◌, ◌^◌, ◌<◌, min, if◌then◌else◌, List, [], ◌∷◌, Some, None, decimal, Option}
 use Rattle.std.specs.Str.{all_ascii_digits}
-
--- The value of a decimal digit; no other byte has one.
-abbrev pub digit_of : ℕ → Option ℕ
-digit_of b = cond (is_ascii_digit b) (Some (b - 48)) None
 
 -- The value of digits that follow digits of the value n.
 abbrev pub value_after : ℕ → List ℕ → ℕ
@@ -15,7 +10,7 @@ value_after n (b ∷ bs) = value_after (10 * n + (b - 48)) bs
 -- The number that a word of digits alone stands for, at most `largest`; no other word stands for a number.
 abbrev pub number_of : List ℕ → ℕ → Option ℕ
 number_of [] largest = None
-number_of (b ∷ bs) largest = cond (all_ascii_digits (b ∷ bs)) (Some (min (value_after 0 (b ∷ bs)) largest)) None
+number_of (b ∷ bs) largest = if all_ascii_digits (b ∷ bs) then Some (min (value_after 0 (b ∷ bs)) largest) else None
 
 -- The laws of numbers at most `largest`.
 pub record NumberLaws (largest : ℕ) : Type 0 where

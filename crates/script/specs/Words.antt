@@ -1,5 +1,5 @@
 -- How a line falls into words.
-use Rattle.std.specs.Prelude.{◌≡◌, ℕ, ◌-◌, ◌<◌, Bool, true, false, cond, not, ◌||◌, List, [], ◌∷◌, ◌++◌, length, take, filter, ◌==◌, ◌≢◌, slice_index}
+use Rattle.std.specs.Prelude.{◌≡◌, ℕ, ◌-◌, ◌<◌, Bool, true, false, if◌then◌else◌, not, ◌||◌, List, [], ◌∷◌, ◌++◌, length, take, filter, ◌==◌, ◌≢◌, slice_index}
 use Rattle.std.specs.List.{flat_map, AllByRecursion}
 
 -- A blank is a space or a tab.
@@ -19,7 +19,7 @@ ended (b ∷ w) ws = (b ∷ w) ∷ ws
 -- The words of bytes read from the left, where the word that is being read began with `w`.
 abbrev pub reading : List ℕ → List ℕ → List (List ℕ)
 reading w [] = ended w []
-reading w (b ∷ bs) = cond (blank b) (ended w (reading [] bs)) (reading (w ++ b ∷ []) bs)
+reading w (b ∷ bs) = if blank b then ended w (reading [] bs) else reading (w ++ b ∷ []) bs
 
 -- The words of a part of a line.
 abbrev pub words_in : List ℕ → List (List ℕ)
@@ -27,7 +27,7 @@ words_in bs = reading [] bs
 
 -- A line without its last byte, where that is a CR.
 abbrev pub body : List ℕ → List ℕ
-body line = cond (slice_index line (length line - 1) == 13) (take (length line - 1) line) line
+body line = if slice_index line (length line - 1) == 13 then take (length line - 1) line else line
 
 -- The words of a line.
 abbrev pub words_of : List ℕ → List (List ℕ)

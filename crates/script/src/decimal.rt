@@ -1,19 +1,9 @@
 // Words that are decimal numbers.
 ghost use Rattle.std.specs.Prelude.{◌≡◌, ◌+◌, ◌*◌, min};
-ghost use Rattle.script.specs.Numbers.{digit_of, number_of, NumberLaws};
-
-// The value of a decimal digit.
-fn digit_value(byte: u8) -> Option<u8>
-    ensures { result ≡ digit_of byte }
-{
-    match byte {
-        b'0'..=b'9' => Some(byte - b'0'),
-        _ => None,
-    }
-}
+ghost use Rattle.script.specs.Numbers.{number_of, NumberLaws};
 
 // The value with one digit more behind it, at most `largest`.
-fn with_digit(value: u64, digit: u8, largest: u64) -> u64
+fn with_digit(value: u64, digit: u32, largest: u64) -> u64
     ensures { result ≡ min (10 * value + digit) largest }
 {
     let more = value.saturating_mul(10).saturating_add(u64::from(digit));
@@ -21,6 +11,7 @@ fn with_digit(value: u64, digit: u8, largest: u64) -> u64
 }
 
 // The number that a word of digits stands for, or `largest` where it is larger than that.
+#[tactic(auto, using(crate::proofs::Capped::number_laws))]
 pub fn number(word: &[u8], largest: u64) -> Option<u64>
     ensures value { result ≡ number_of word.now largest }
     ensures laws { NumberLaws largest }
@@ -30,7 +21,7 @@ pub fn number(word: &[u8], largest: u64) -> Option<u64>
     }
     let mut value = 0;
     for byte in word {
-        let digit = digit_value(*byte)?;
+        let digit = char::from(*byte).to_digit(10)?;
         value = with_digit(value, digit, largest);
     }
     Some(value)

@@ -10,7 +10,7 @@ ghost use Rattle.script.specs.Stepping.{bytes_left, words_left, word_steps};
 fn is_blank(byte: u8) -> bool
     ensures { result ≡ blank byte }
 {
-    byte == b' ' || byte == b'\t'
+    matches!(byte, b' ' | b'\t')
 }
 
 // How many bytes at the front are blanks, or are no blanks.
@@ -18,22 +18,17 @@ fn front(bytes: &[u8], blanks: bool) -> usize
     ensures value { result ≡ prefix_len (is_blank blanks) bytes.now }
     ensures within { result ≤ length bytes.now }
 {
-    for (i, byte) in bytes.iter().enumerate() {
-        if is_blank(*byte) != blanks {
-            return i;
-        }
-    }
-    bytes.len()
+    bytes
+        .iter()
+        .take_while(|byte| is_blank(**byte) == blanks)
+        .count()
 }
 
 // The line without the one CR that may end it.
 fn without_return(line: &[u8]) -> &[u8]
     ensures { result.now ≡ body line.now }
 {
-    let [kept @ .., last] = line else {
-        return line;
-    };
-    if *last == b'\r' { kept } else { line }
+    line.strip_suffix(b"\r").unwrap_or(line)
 }
 
 // What is left of a line whose words are handed out from the left.

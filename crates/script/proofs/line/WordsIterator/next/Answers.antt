@@ -1,9 +1,8 @@
-use Rattle.std.proofs.Common.{◌≡◌, ℕ, ◌-◌, ◌<◌, List, length, take, drop, refl, ap, arith, rules, true-eqb, false-eqb}
+use Rattle.std.proofs.Common.{◌≡◌, ℕ, ◌-◌, ◌<◌, List, length, take, drop, refl, ap, arith, true-eqb, false-eqb}
 use Rattle.std.proofs.lemmas.List.{take_rest}
 use Rattle.script.proofs.Cutting.{Cut, first, none}
 use Rattle.script.proofs.line.WordsIterator.next.Goals as goal
 use Rattle.script.proofs.line.WordsIterator.next.Goals.{After-is_empty}
-use Rattle.std.proofs.iter.Next.{firm}
 
 -- the bytes that are left, and the same without the blanks in front
 abbrev left : After-is_empty → List ℕ
@@ -21,12 +20,12 @@ cut c = record {
   back = c.split_at.ensures.back;
 }
 
-pub returns-then-is_empty : goal.returns-then-is_empty
-returns-then-is_empty c =
+pub returns-then-is_empty-clause-steps : goal.returns-then-is_empty-clause-steps
+returns-then-is_empty-clause-steps c =
     let no : c.front-2.result ≡ 0 = omega (arith, c.split_at.ensures.front_len, true-eqb _ 0 c.if-is_empty.ensures) in
-    record { steps = (ap length (none (cut (goal.at.returns-then-is_empty c).After-is_empty) no), refl); goes = firm (tt) (λ h. search rules) }
+    (ap length (none (cut (goal.at.returns-then-is_empty-clause-steps c).After-is_empty) no), refl)
 
-pub returns : goal.returns
-returns c =
+pub returns-clause-steps : goal.returns-clause-steps
+returns-clause-steps c =
     let some : 0 < length c.split_at.result.0.now = omega (arith, false-eqb _ 0 c.if-is_empty.ensures) in
-    record { steps = first (cut (goal.at.returns c).After-is_empty) some; goes = firm ((tt, tt, omega (arith, c.split_at.ensures.back_len, c.split_at.ensures.front_len))) (λ h. search rules) }
+    first (cut (goal.at.returns-clause-steps c).After-is_empty) some
