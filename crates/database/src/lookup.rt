@@ -6,8 +6,8 @@ ghost use Rattle.database.specs.States.{state, entry_of, age_of, row_of};
 
 use crate::types::Database;
 use entries::entry::Entry;
-use entries::places::place;
 use rows::Row;
+use rows::places::place;
 
 impl Database {
     // How many nodes the network has.

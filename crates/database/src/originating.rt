@@ -5,8 +5,8 @@ ghost use Rattle.database.specs.Originating.{originate_answer, originate_state};
 
 use crate::types::Database;
 use entries::entry::Entry;
-use entries::places::place;
 use rows::Row;
+use rows::places::place;
 
 // The age of a report as its origin makes it.
 const NEW: u8 = 7;

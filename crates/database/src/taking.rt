@@ -6,9 +6,9 @@ ghost use Rattle.database.specs.Taking.{within, row_with, heard_entry, verdict_o
 
 use crate::types::Database;
 use entries::entry::Entry;
-use entries::places::place;
 use entries::verdicts::{TakeFault, Taken, Taking};
 use rows::Row;
+use rows::places::place;
 use wire::fault::ReadFault;
 use wire::report::{Header, Report};
 

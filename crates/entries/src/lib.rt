@@ -1,7 +1,6 @@
 // What is held of one node, and what a report is to it.
 //
 //   entry       an entry: serial, age, lines; fresh, and a period later
-//   places      where what is numbered from 1 stands
 //   freshness   which of two reports of one origin is newer
 //   verdicts    what taking a report answers, and the refusals 23 and 24 beside those of reading
 //
@@ -11,5 +10,4 @@
 
 pub mod entry;
 pub mod freshness;
-pub mod places;
 pub mod verdicts;

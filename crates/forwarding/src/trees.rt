@@ -3,6 +3,7 @@ ghost use Rattle.spf.specs.Reckoning.{route_at};
 ghost use Rattle.forwarding.specs.Shown.{shown_by};
 
 use super::next_hops::NextHops;
+use rows::places::place;
 use spf::route::Tree;
 
 // The trees of a network, one to a node: the tree of node x stands at place x - 1. They may hold any numbers at all.
@@ -21,9 +22,7 @@ impl<'a> NextHops for Trees<'a> {
     }
 
     fn next_hop(&self, at: u8, to: u8) -> u8 {
-        self.trees
-            .get(usize::from(at).wrapping_sub(1))
-            .map_or(0, |tree| hop_in(tree, to))
+        self.trees.get(place(at)).map_or(0, |tree| hop_in(tree, to))
     }
 }
 
@@ -31,6 +30,5 @@ impl<'a> NextHops for Trees<'a> {
 fn hop_in(tree: &Tree, to: u8) -> u8
     ensures { result ≡ (route_at tree.now to).hop }
 {
-    tree.get(usize::from(to).wrapping_sub(1))
-        .map_or(0, |route| route.hop)
+    tree.get(place(to)).map_or(0, |route| route.hop)
 }

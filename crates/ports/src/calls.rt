@@ -10,6 +10,7 @@ ghost use Rattle.ports.specs.Places.{Placeable};
 
 use crate::ports::Ports;
 use line::states::Up;
+use rows::places::place;
 use rows::row::Row;
 use slots::port::{Port, Slot, circuit};
 use slots::refusal::Refusal;
@@ -30,7 +31,7 @@ impl Ports {
         ensures { on_ok line_of result ≡ up_line_at (held self.now).slots slot }
     {
         self.slots
-            .get(usize::from(slot).wrapping_sub(1))
+            .get(place(slot))
             .ok_or(Refusal::SlotOutOfRange)?
             .ok_or(Refusal::SlotNotUp)
     }

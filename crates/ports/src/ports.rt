@@ -4,6 +4,7 @@ ghost use Rattle.slots.specs.Slots.{shown};
 ghost use Rattle.ports.specs.Places.{Within, Apart};
 
 use crate::reporting::figure_to;
+use rows::places::place;
 use slots::port::Slot;
 use slots::threshold::Threshold;
 
@@ -41,10 +42,7 @@ impl Ports {
     fn slot(&self, number: u8) -> Slot
         ensures { shown result ≡ slot_at (held self.now).slots number }
     {
-        self.slots
-            .get(usize::from(number).wrapping_sub(1))
-            .copied()
-            .flatten()
+        self.slots.get(place(number)).copied().flatten()
     }
 
     // Whether a slot is up.

@@ -6,7 +6,7 @@ ghost use Rattle.retransmit.specs.Resending.{resend_number, resend_text, runs_ou
 use crate::setting::FULL;
 use crate::timers::Timers;
 use database::Database;
-use entries::places::place;
+use rows::places::place;
 use std::error::Error;
 use std::fmt;
 
@@ -32,6 +32,7 @@ impl fmt::Display for ResendFault {
     ghost output = { λ fault. Some (resend_text fault) };
 
     fn fmt<W: fmt::Write>(&self, f: &mut fmt::Formatter<W>) -> fmt::Result {
+        // The same word as in every crate that refuses: a crate of its own for it would be no plainer.
         write!(f, "refused {}", self.number())
     }
 }
@@ -86,6 +87,7 @@ fn count_down(timers: &mut [u8; 64], database: &Database)
     ensures size { length timers.new ≡ 64 }
     ensures each { (j : ℕ) → j < 64 → slice_index timers.new j ≡ lowered_for (state database.now) (j + 1) (slice_index timers.old j) }
 {
+    // The number from the place: through a `zip` with `iter_mut()` the proof loses what the timers then hold.
     for (origin, timer) in timers.iter_mut().enumerate() {
         *timer = lowered(*timer, database.age(origin as u8 + 1));
     }

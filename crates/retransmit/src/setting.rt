@@ -3,11 +3,12 @@ ghost use Rattle.std.specs.Prelude.{◌≡◌, ◌≤◌};
 ghost use Rattle.retransmit.specs.Timers.{no_timers, timer_of, flooded, acknowledged, dropped};
 
 use crate::timers::Timers;
-use entries::places::place;
+use rows::places::place;
 
 // The setting of a timer when its report is sent.
 pub(crate) const FULL: u8 = 3;
 
+// By hand, since a type with facts derives none.
 impl Default for Timers {
     ghost is_default = { λ timers. timers.left ≡ no_timers };
 
@@ -41,6 +42,7 @@ impl Timers {
     pub fn flood(&mut self, origin: u8, slots: [bool; 8], arrival: Option<u8>)
         ensures { self.new.left ≡ flooded origin slots arrival self.old.left }
     {
+        // Asked once, and not by a look-up for each slot.
         let place = place(origin);
         if place >= 64 {
             return;
@@ -60,6 +62,7 @@ impl Timers {
     pub fn acknowledge(&mut self, slot: u8, origin: u8)
         ensures { self.new.left ≡ acknowledged slot origin self.old.left }
     {
+        // By places: the proof of a look-up in a look-up would lose what the timers then hold.
         let (slot, origin) = (place(slot), place(origin));
         if slot < 8 && origin < 64 {
             self.left[slot][origin] = 0;

@@ -3,6 +3,7 @@ ghost use Rattle.std.specs.Prelude.{◌<◌, ◌≤◌};
 
 use metric::Delay;
 use rows::Row;
+use rows::places::place;
 use spf::map::Map;
 use spf::route::{Route, Tree};
 use spf_tree::shortest_paths;
@@ -16,8 +17,7 @@ fn ahead(from: u8, to: u8) -> u8
 }
 
 fn joined(from: u8, to: u8) -> bool {
-    let steps = ahead(from, to);
-    steps >= 1 && steps <= 8
+    (1..=8).contains(&ahead(from, to))
 }
 
 // How many lines the shortest path has: one for each 8 nodes, or part of 8.
@@ -42,8 +42,7 @@ fn hop(tree: &Tree, root: u8, node: u8, parent: u8) -> u8 {
     if parent == root {
         return node;
     }
-    tree.get(usize::from(parent).wrapping_sub(1))
-        .map_or(0, |route| route.hop)
+    tree.get(place(parent)).map_or(0, |route| route.hop)
 }
 
 // A push for each line: a row has no other way in, and the lines are the ring's own.

@@ -5,7 +5,8 @@ ghost use Rattle.rows.specs.Rows.{lines_in, allowed_row, figures_fit};
 use crate::row::Row;
 
 impl Row {
-    // Whether this may be the row of this node, in a network of so many nodes.
+    // Whether this may be the row of this node, in a network of so many nodes. The reader of reports asks alike of a report's
+    // lines, but there each no has a number and a place.
     pub fn allowed(&self, count: u8, node: u8) -> bool
         ensures value { result ≡ allowed_row count node self.now }
         ensures fits { result ≡ true → figures_fit (lines_in self.now) ≡ true }

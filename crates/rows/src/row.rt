@@ -8,7 +8,8 @@ use std::error::Error;
 use std::fmt;
 use wire::lines::Line;
 
-// At most 8 lines: the first `used` of `lines`. What stands behind them means nothing.
+// At most 8 lines: the first `used` of `lines`. What stands behind them means nothing. An array and a count, since rows are
+// copied with what holds them and the library allocates nothing.
 #[derive(Clone, Copy, Debug, Default, PartialEq, Eq)]
 pub struct Row {
     pub lines: [Line; 8],
@@ -34,10 +35,7 @@ impl Row {
     pub fn new() -> Row
         ensures { result ≡ no_row }
     {
-        Row {
-            lines: [Line::default(); 8],
-            used: 0,
-        }
+        Row::default()
     }
 
     // The lines.

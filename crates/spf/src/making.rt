@@ -37,6 +37,7 @@ impl Map {
         ensures value { option_map parts_of result ≡ new_map count }
         ensures law { Bare count (option_map map_of result) }
     {
+        // Two comparisons, here and below: what holds behind them is asked of the number and not of a range.
         if count < 1 || count > 64 {
             return None;
         }

@@ -9,6 +9,7 @@ ghost use Rattle.spf.specs.Reading.{lines_from, shown_figure};
 ghost use Rattle.spf.specs.Rows.{figure_to};
 
 use crate::map::Map;
+use rows::places::place;
 use wire::lines::Line;
 
 // The figure of the line to a node among some lines.
@@ -37,7 +38,8 @@ impl Map {
         ensures law { Node (map_of self.now) node → allowed (map_of self.now).count node 0 result.now ≡ true }
         ensures none { (map_of self.now).count < node → result.now ≡ [] }
     {
-        let Some(row) = self.rows.get(usize::from(node).wrapping_sub(1)) else {
+        // No `map_or`, which would take `&[]` for an array.
+        let Some(row) = self.rows.get(place(node)) else {
             return &[];
         };
         row.lines()
