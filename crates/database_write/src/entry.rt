@@ -39,6 +39,7 @@ impl fmt::Display for EntryFault {
     ghost output = { λ fault. Some (entry_text fault) };
 
     fn fmt<W: fmt::Write>(&self, f: &mut fmt::Formatter<W>) -> fmt::Result {
+        // The same word as in every crate that refuses: a crate of its own for it would be no plainer.
         write!(f, "refused {}", self.number())
     }
 }

@@ -33,7 +33,7 @@ impl Down {
 }
 
 impl Watch {
-    // One test message more: the watch goes on, or the line goes Down.
+    // One test message more: the watch goes on, or the line goes Down. A match, since the ends go with either.
     fn after(self, message: Message) -> Result<Watch, Down>
         ensures { (in_state : List Message → State) → watched in_state result ≡ record (watching in_state self) { state = keeping in_state (pushed (held self.window) message) } }
     {

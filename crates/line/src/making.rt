@@ -26,6 +26,7 @@ impl fmt::Display for Refusal {
     ghost output = { λ refusal. Some (refusal_text refusal) };
 
     fn fmt<W: fmt::Write>(&self, f: &mut fmt::Formatter<W>) -> fmt::Result {
+        // The same word as in every crate that refuses: a crate of its own for it would be no plainer.
         write!(f, "refused {}", self.number())
     }
 }

@@ -13,7 +13,8 @@ pub trait Metric {
     fn laws(&self)
         ensures { Laws (means self.now) };
 
-    // No body is provided below: not every metric compares costs as numbers, and an impl for all that do would overlap `Floor`'s.
+    // No body is provided below, though three impls agree in two: it would have to be right whatever the metric means, and not every
+    // metric compares costs as numbers. An impl for all that do would overlap the one for `Floor`.
 
     // The cost of the path that has no line.
     fn empty(&self) -> u64

@@ -33,6 +33,7 @@ impl fmt::Display for Refusal {
     ghost output = { λ refusal. Some (codes "refused " ++ decimal (number_of refusal)) };
 
     fn fmt<W: fmt::Write>(&self, f: &mut fmt::Formatter<W>) -> fmt::Result {
+        // The same word as in every crate that refuses: a crate of its own for it would be no plainer.
         write!(f, "refused {}", self.number())
     }
 }

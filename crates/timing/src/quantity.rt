@@ -34,6 +34,7 @@ impl<const LEAST: u16, const MOST: u16> TryFrom<u16> for Quantity<LEAST, MOST> {
     ghost try_from_gives = { λ n r. ok_units r ≡ ok_or (within LEAST MOST n) (record { 0 = n }) };
 
     fn try_from(units: u16) -> Result<Self, OutOfRange> {
+        // An `if`, since a closure for `then` would not know the range.
         if (LEAST..=MOST).contains(&units) {
             Ok(Quantity { units })
         } else {

@@ -42,6 +42,7 @@ impl fmt::Display for Question {
     ghost output = { λ q. Some (question_text q) };
 
     fn fmt<W: fmt::Write>(&self, f: &mut fmt::Formatter<W>) -> fmt::Result {
+        // The same word as in every crate that refuses: a crate of its own for it would be no plainer.
         write!(f, "refused {}", self.number())
     }
 }

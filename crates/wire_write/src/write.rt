@@ -36,6 +36,7 @@ impl fmt::Display for WriteFault {
     ghost output = { λ e. Some (write_text e) };
 
     fn fmt<W: fmt::Write>(&self, f: &mut fmt::Formatter<W>) -> fmt::Result {
+        // The same word as in every crate that refuses: a crate of its own for it would be no plainer.
         write!(f, "refused {}", self.number())
     }
 }
@@ -89,9 +90,9 @@ pub fn write_report(report: &Report, out: &mut [u8]) -> Result<usize, WriteFault
 {
     let pairs = report.pairs;
     let size = pairs.len();
-    let Some((head, rest)) = out.split_first_chunk_mut::<HEAD>() else {
-        return Err(WriteFault::BufferTooShort);
-    };
+    let (head, rest) = out
+        .split_first_chunk_mut::<HEAD>()
+        .ok_or(WriteFault::BufferTooShort)?;
     if rest.len() < size {
         return Err(WriteFault::BufferTooShort);
     }
@@ -101,20 +102,22 @@ pub fn write_report(report: &Report, out: &mut [u8]) -> Result<usize, WriteFault
 }
 
 // Puts a draft at the start of the buffer, alters nothing behind it, and answers its length. What a report may say reads
-// back as it was meant; a draft that says anything else is written by the same definition.
+// back as it was meant; a draft that says anything else is written by the same definition. It begins as `write_report` does: a
+// helper that hands back both parts of the buffer would have to promise what becomes of the loan, for both.
 pub fn write_draft(draft: &Draft, out: &mut [u8]) -> Result<usize, WriteFault>
     ensures answer { result ≡ put_answer (encode (drafted draft.now)) out.old }
     ensures buffer { out.new ≡ put (encode (drafted draft.now)) out.old }
     ensures reads_back { Allowed (drafted draft.now) → IfOk result (λ n. read_report (take n out.new) ≡ Ok (drafted draft.now)) }
 {
     let lines = draft.lines;
-    let Some((head, rest)) = out.split_first_chunk_mut::<HEAD>() else {
-        return Err(WriteFault::BufferTooShort);
-    };
+    let (head, rest) = out
+        .split_first_chunk_mut::<HEAD>()
+        .ok_or(WriteFault::BufferTooShort)?;
     if rest.len() / 3 < lines.len() {
         return Err(WriteFault::BufferTooShort);
     }
     *head = head_bytes(draft.header, 3 * lines.len());
+    // By places, since the library does not say what chunks that are lent for writing leave in the buffer.
     for (i, line) in lines.iter().enumerate() {
         rest[3 * i..3 * i + 3].copy_from_slice(&<[u8; 3]>::from(*line));
     }

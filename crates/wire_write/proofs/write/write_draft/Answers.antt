@@ -1,4 +1,4 @@
-use Rattle.std.proofs.Common.{◌≡◌, ◌+◌, ◌-◌, ◌*◌, ◌≤◌, ◌++◌, length, drop, sym, refl, ap, ◌∙◌, arith, rules}
+use Rattle.std.proofs.Common.{◌≡◌, ◌+◌, ◌-◌, ◌*◌, ◌≤◌, ◌++◌, length, take, drop, sym, refl, ap, ◌∙◌, arith, rules}
 use Rattle.std.proofs.lemmas.List.{take-append-drop}
 use Rattle.wire.specs.Lines.{pair_bytes}
 use Rattle.wire_write.specs.Putting.{drafted, put}
@@ -11,9 +11,11 @@ use Rattle.wire_write.proofs.write.write_draft.Goals.{After-loop-i}
 pub returns-then-rest-lines : goal.returns-then-rest-lines
 returns-then-rest-lines c =
     let lines = c.args.draft.now.lines.now in
-    let parts = c.in-Some.ensures.cases in
-    let whole : c.in-Some.head.now ++ c.in-Some.rest.now ≡ c.args.out.now = (λ i. parts.0 i ++ parts.1 i) ∙ take-append-drop 15 c.args.out.now in
-    let p = put_short (encode (drafted c.args.draft.now)) c.args.out.now (omega (arith, parts.2, c.if-rest-lines.true, pairs_length lines)) in
+    let first : c.in_ok-out.head.now ≡ take 15 c.args.out.now = search rules in
+    let behind : c.in_ok-out.rest.now ≡ drop 15 c.args.out.now = search rules in
+    let long : length c.in_ok-out.rest.now + 15 ≡ length c.args.out.now = search rules in
+    let whole : c.in_ok-out.head.now ++ c.in_ok-out.rest.now ≡ c.args.out.now = (λ i. first i ++ behind i) ∙ take-append-drop 15 c.args.out.now in
+    let p = put_short (encode (drafted c.args.draft.now)) c.args.out.now (omega (arith, long, c.if-rest-lines.true, pairs_length lines)) in
     record { answer = sym p.1; buffer = whole ∙ sym p.0; reads_back = λ _. tt }
 
 pub loop-i-preserved : goal.loop-i-preserved
