@@ -24,6 +24,7 @@ impl Search {
     {
         let mut costs = [0; 64];
         let mut nodes = [0; 64];
+        // As long as the list that the loop fills.
         let mut reached = 0;
         for (place, route) in routes.iter().enumerate() {
             if let Some(cost) = route.distance {

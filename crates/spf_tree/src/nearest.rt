@@ -27,7 +27,7 @@ impl Search {
         metric.laws();
         let mut best = self.settled;
         let mut least = self.cost_at(best);
-        // Over places, not over the nodes there: the place is what is asked for.
+        // Over places, not over the nodes there: the place is what is asked for. No `min_by_key`: a metric is no `Ord`.
         for place in self.settled + 1..self.reached {
             let cost = self.cost_at(place);
             if metric.less(cost, least) {

@@ -7,7 +7,8 @@ use spf::route::Tree;
 // then those that wait. Each node that has a distance is listed once, and its cost stands in `costs` too.
 // An array and marks in it, since the library allocates nothing.
 //
-// The costs stand beside the routes for speed: a look for the nearest node that read the routes took 31,700 instructions a tree, past the bar of 31,500; this takes 26,300.
+// The costs stand beside the routes for speed: a look for the nearest node that read the routes took 30,500 instructions a tree, past
+// one and a half times the 19,900 of a search in C; this takes 26,350.
 #[derive(Drop)]
 pub(crate) struct Search {
     pub(crate) routes: Tree,

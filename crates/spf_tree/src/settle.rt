@@ -49,7 +49,8 @@ impl Settled {
 }
 
 impl Search {
-    // The next hop of a node, by its parent, which is settled.
+    // The next hop of a node, by its parent, which is settled; 0 for none, as the rules write it. Nodes that the search has listed are
+    // known to be 1 to 64, so here and below their places are read without a look-up.
     fn hop_of(&self, root: u8, node: u8, parent: u8) -> u8
         requires { parent ≤ 64 }
         ensures { result ≡ hop_by root node parent (route_at self.now.routes parent).hop }

@@ -36,6 +36,7 @@ pub fn shortest_paths<M: Metric>(metric: &M, map: &Map, root: u8) -> Option<Tree
     ensures value { result ≡ tree_answer (M.means metric.now) (map_of map.now) root }
     ensures right { MatchOption result (Node (map_of map.now) root → ⊥) (λ tree. AllRoutes (M.means metric.now) (map_of map.now) root tree) }
 {
+    // Two comparisons, as in `Map`: what holds behind them is asked of the root and not of a range.
     if root < 1 || root > map.count() {
         return None;
     }
