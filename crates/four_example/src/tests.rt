@@ -5,6 +5,7 @@ use spf::changes::changed;
 use spf::map::Map;
 use spf::route::Route;
 use spf_tree::shortest_paths;
+use std::cmp::Ordering;
 use wire::lines::Line;
 
 // A push for each line, as in every test that makes rows: where the lines come from is its own.
@@ -96,12 +97,10 @@ fn one_route_of_four_changes(rt: HostRuntime) {
 
 // With 1 to 2 faster than 200, all go by node 2, at other distances; slower, node 2 is further and node 4 goes by node 3.
 fn count_by_hand(to_two: u16) -> u8 {
-    if to_two < 200 {
-        3
-    } else if to_two > 200 {
-        2
-    } else {
-        0
+    match to_two.cmp(&200) {
+        Ordering::Less => 3,
+        Ordering::Equal => 0,
+        Ordering::Greater => 2,
     }
 }
 

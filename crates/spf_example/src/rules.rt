@@ -26,20 +26,18 @@ impl<M: Metric> Case<'_, M> {
         Some(self.metric.add(near, self.map.figure(from, to)?))
     }
 
-    // Whether that is the distance of the other.
-    fn leads(&self, least: &Distances, from: u8, to: u8) -> bool {
-        let cost = self.cost_by(least, from, to);
-        cost.is_some() && cost == least[place(to)]
-    }
-
-    // The lowest-numbered node that leads to this one; 0 for none, and for the root.
+    // The lowest-numbered node whose distance, with the figure of its line to this one added, is the distance of this one; 0 for
+    // none, and for the root.
     fn parent(&self, least: &Distances, node: u8) -> u8 {
         if node == self.root {
             return 0;
         }
         let mut nodes = 1..=self.map.count();
         nodes
-            .find(|from| self.leads(least, *from, node))
+            .find(|from| {
+                let cost = self.cost_by(least, *from, node);
+                cost.is_some() && cost == least[place(node)]
+            })
             .unwrap_or(0)
     }
 
