@@ -1,13 +1,11 @@
 -- What one byte more does to the digits and the bytes of a word, and the laws of bytes as words.
-use Rattle.std.proofs.Common.{◌≡◌, ℕ, suc, ◌+◌, ◌-◌, ◌*◌, ◌/◌, ◌%◌, ◌^◌, ◌<◌, Bool, true, false, eqb, List, [], ◌∷◌, ◌++◌, map, length, get_or, drop, Some, None, Option, sym, refl, ap, ◌∙◌, append_assoc, arith}
+use Rattle.std.proofs.Common.{◌≡◌, ℕ, suc, ◌+◌, ◌*◌, ◌/◌, ◌%◌, ◌<◌, Bool, true, false, eqb, List, [], ◌∷◌, ◌++◌, map, length, get_or, drop, Some, None, Option, sym, refl, ap, ◌∙◌, append_assoc, arith}
 use native.Mathlib.Nat.{div-add-mod}
 use Rattle.std.specs.Char.{digit_value as char_value}
-use Rattle.std.specs.Fmt.{digits, digit_glyph, padded_integral, format_spec}
 use Rattle.std.specs.Option.{option_map}
 use Rattle.std.specs.Simd.{first_chunks}
 use Rattle.std.specs.List.{AllByRecursion}
 use Rattle.std.proofs.iter.runs.Lists.{none-some, same_Some}
-use Rattle.std.proofs.lemmas.Fmt.{hex_byte}
 use Rattle.std.proofs.lemmas.Nat.{div_below, mod_below, div-mul-add, mod-mul-add}
 use Rattle.std.proofs.lemmas.List.{drop_more}
 use Rattle.std.proofs.lemmas.Bool.{eqb-true}
@@ -59,16 +57,16 @@ module _ (pairs : List (List ℕ)) (i : ℕ) (inside : i < length pairs) where
   pub no_byte : (before : List ℕ) → here ≡ None → option_map (λ more. before ++ more) (bytes_of_pairs (drop i pairs)) ≡ None
   no_byte before e = rw (drop_more pairs i [], e) refl
 
--- one byte more is written
-glyph : (n : ℕ) → n < 16 → digit_glyph false n ≡ digit_byte n
-glyph n h = grind (arith, nat_tests)
+-- one byte more is written: first its high digit, then its low one
+pub record Pushes (b : ℕ) (before between after high low : List ℕ) : Type 0 where
+  pub first : between ≡ before ++ high
+  pub second : after ≡ between ++ low
+  pub top : high ≡ digit_byte (b / 16) ∷ []
+  pub end : low ≡ digit_byte (b % 16) ∷ []
 
-pub digits_more : (before after bytes : List ℕ) (i : ℕ) → i < length bytes → get_or bytes i 0 < 256
-    → after ≡ before ++ padded_integral (format_spec 32 0 4 2 (2 ^ 64 - 1)) false [] (digits 16 false (get_or bytes i 0))
+pub digits_more : {before between after high low : List ℕ} (bytes : List ℕ) (i : ℕ) → i < length bytes → Pushes (get_or bytes i 0) before between after high low
     → after ++ digits_of (drop (i + 1) bytes) ≡ before ++ digits_of (drop i bytes)
-digits_more before after bytes i h fits written =
-    let b = get_or bytes i 0 in
-    rw (drop_more bytes i 0, written, hex_byte false b fits, glyph (b / 16) (div_below b 16 16 (omega arith) (omega arith)), glyph (b % 16) (mod_below b 16 (omega arith))) (simp append_assoc)
+digits_more bytes i h p = rw (drop_more bytes i 0, p.second, p.first, p.top, p.end) (simp append_assoc)
 
 -- a digit is read back
 digit_back : (d : ℕ) → d < 16 → digit_value (digit_byte d) ≡ Some d

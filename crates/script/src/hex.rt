@@ -1,7 +1,7 @@
 // Words that are bytes, two hexadecimal digits to each.
-ghost use Rattle.std.specs.Prelude.{◌≡◌, IfOk, Some, vec_items, string_bytes};
+ghost use Rattle.std.specs.Prelude.{◌≡◌, ◌<◌, IfOk, Some, vec_items, string_bytes};
 ghost use Rattle.std.specs.Option.{option_map};
-ghost use Rattle.script.specs.Hexadecimal.{byte_of, pairs_of, bytes_of, digits_of, hex_of, HexLaws};
+ghost use Rattle.script.specs.Hexadecimal.{digit_byte, byte_of, pairs_of, bytes_of, digits_of, hex_of, HexLaws};
 
 use std::alloc::{AllocError, Global};
 
@@ -44,13 +44,23 @@ pub fn decode_hex(heap: Global, word: &[u8]) -> Result<Option<Vec<u8>>, AllocErr
     }
 }
 
-// The digits of bytes, in lower case.
+// The digit of a value, in lower case.
+fn digit(value: u8) -> char
+    requires { value < 16 }
+    ensures value { result ≡ digit_byte value }
+    ensures ascii { result < 128 }
+{
+    char::from_digit(u32::from(value), 16).unwrap()
+}
+
+// The digits of bytes, in lower case. A push for each: a `write!` for each byte took half as much time again to rewrite a report.
 fn encode_pairs(heap: Global, bytes: &[u8]) -> Result<String, AllocError>
     ensures { IfOk result (λ s. string_bytes s ≡ digits_of bytes.now) }
 {
     let mut digits = String::new(heap);
     for byte in bytes {
-        write!(digits, "{byte:02x}")?;
+        digits.push(digit(*byte / 16))?;
+        digits.push(digit(*byte % 16))?;
     }
     Ok(digits)
 }

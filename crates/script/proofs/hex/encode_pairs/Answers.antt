@@ -1,4 +1,5 @@
-use Rattle.std.proofs.Common.{◌++◌, string_bytes, sym, ap, ◌∙◌, append-nil, arith}
+use Rattle.std.proofs.Common.{[], ◌∷◌, ◌++◌, string_bytes, sym, ap, ◌∙◌, append-nil}
+use lib.Utf8.{encode}
 use Rattle.std.proofs.lemmas.List.{drop_all}
 use Rattle.script.specs.Hexadecimal.{digits_of}
 use Rattle.script.proofs.Pairs.{digits_more}
@@ -6,9 +7,18 @@ use Rattle.script.proofs.hex.encode_pairs.Goals as goal
 
 pub loop-byte-preserved : goal.loop-byte-preserved
 loop-byte-preserved c =
-    let written = rw (c.laid_out.ensures, c.in_radix.ensures) at c.in_ok-write.ensures.bytes in
-    digits_more (string_bytes c.loop-byte.digits) (string_bytes c.write.new.self) c.args.bytes.now c.loop-byte.byte-index c.loop-byte-test.true
-    (omega (arith, c.type_inv.bytes c.loop-byte.byte-index)) written ∙ c.loop-byte.invariant
+    let high = c.digit.ensures in
+    let low = c.digit-in-loop-byte.ensures in
+    let between = string_bytes c.push.new.self in
+    let after = string_bytes c.push-in-loop-byte.new.self in
+    digits_more {before = string_bytes c.loop-byte.digits} {between = between} {after = after} {high = encode c.digit.result} {low = encode c.digit-in-loop-byte.result} c.args.bytes.now c.loop-byte.byte-index c.loop-byte-test.true
+    (record {
+      first = c.in_ok-push.ensures.bytes;
+      second = c.in_ok-push-2.ensures.bytes;
+      top = c.push.ensures.ascii high.ascii ∙ ap (λ d. d ∷ []) high.value;
+      end = c.push-in-loop-byte.ensures.ascii low.ascii ∙ ap (λ d. d ∷ []) low.value;
+    })
+    ∙ c.loop-byte.invariant
 
 pub returns : goal.returns
 returns c =
