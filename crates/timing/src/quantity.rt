@@ -44,6 +44,10 @@ impl<const LEAST: u16, const MOST: u16> TryFrom<u16> for Quantity<LEAST, MOST> {
 }
 
 impl fmt::Display for OutOfRange {
+    ghost use Rattle.std.specs.Prelude.{◌++◌, Some, codes, decimal};
+
+    ghost output = { λ e. Some (decimal e.0 ++ codes " lies beyond the range") };
+
     fn fmt<W: fmt::Write>(&self, f: &mut fmt::Formatter<W>) -> fmt::Result {
         write!(f, "{} lies beyond the range", self.0)
     }

@@ -1,5 +1,5 @@
 // The speeds of lines.
-ghost use Rattle.std.specs.Prelude.{◌≡◌, ◌-◌, ok_or};
+ghost use Rattle.std.specs.Prelude.{◌≡◌, ◌-◌, ◌++◌, Some, codes, decimal, ok_or};
 ghost use Rattle.timing.specs.Speeds.{numbered, number_of};
 
 use std::error::Error;
@@ -44,6 +44,8 @@ impl TryFrom<u8> for Speed {
 }
 
 impl fmt::Display for UnknownSpeed {
+    ghost output = { λ e. Some (codes "no speed has the number " ++ decimal e.0) };
+
     fn fmt<W: fmt::Write>(&self, f: &mut fmt::Formatter<W>) -> fmt::Result {
         write!(f, "no speed has the number {}", self.0)
     }
