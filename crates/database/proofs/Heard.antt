@@ -12,7 +12,7 @@ use Rattle.entries.specs.Entries.{sound_entry}
 use Rattle.database.specs.Taking.{lines_within, within, row_with, heard_entry}
 
 -- Lawful lines whose neighbours are within the count may leave the origin.
-may_leave : (count origin previous p : ℕ) (xs : List Line) → Lawful origin previous xs → Ok tt ≡ lines_within count p xs → allowed count origin previous xs ≡ true
+pub may_leave : (count origin previous p : ℕ) (xs : List Line) → Lawful origin previous xs → Ok tt ≡ lines_within count p xs → allowed count origin previous xs ≡ true
 may_leave count origin previous p [] l w = refl
 may_leave count origin previous p (x ∷ xs) l w =
     let next : Ok tt ≡ lines_within count (p + 3) xs = grind (arith, nat_tests) in
@@ -20,7 +20,7 @@ may_leave count origin previous p (x ∷ xs) l w =
     grind (arith, nat_tests)
 
 -- The figures of lawful lines fit.
-fitting : (origin previous : ℕ) (xs : List Line) → Lawful origin previous xs → figures_fit xs ≡ true
+pub fitting : (origin previous : ℕ) (xs : List Line) → Lawful origin previous xs → figures_fit xs ≡ true
 fitting origin previous [] l = refl
 fitting origin previous (x ∷ xs) l = let rest = fitting origin x.neighbour xs l.5 in grind (arith, nat_tests)
 
@@ -28,7 +28,7 @@ pub origin_within : (count : ℕ) (q : Content) → Ok tt ≡ within count q →
 origin_within count q w = grind (arith, nat_tests)
 
 -- The lines of a row are those that it was made with.
-lines_in_lem : (xs : List Line) → lines_in (row_with xs) ≡ xs
+pub lines_in_lem : (xs : List Line) → lines_in (row_with xs) ≡ xs
 lines_in_lem xs = take_at xs (replicate (8 - length xs) no_line) (length xs) refl
 
 entry_sound : (count : ℕ) (q : Content) → Allowed q → Ok tt ≡ within count q → sound_entry count q.header.origin (heard_entry q) ≡ true

@@ -24,6 +24,10 @@ kept_at count es node i e is within n s h k lt =
 pub none_heard : (count : ℕ) (e : Entry) → e ≡ fresh → Sound count (replicate 64 e)
 none_heard count e is k lt = rw (get_or-replicate 64 k e missing lt, is)
 
+-- What is sound has its serial in range.
+pub serial_range : (count node : ℕ) (e : Entry) → sound_entry count node e ≡ true → e.serial ≤ 63
+serial_range count node e h = grind (arith, nat_tests)
+
 -- An own report is sound.
 pub own_sound : (count node serial : ℕ) (row : Row) → node ≤ count → allowed_row count node row ≡ true → figures_fit (lines_in row) ≡ true → sound_entry count node (record { serial = serial % 64; age = 7; row = row }) ≡ true
 own_sound count node serial row w h fit = let s : serial % 64 ≤ 63 = omega arith in grind (arith, nat_tests)

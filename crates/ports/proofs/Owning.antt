@@ -34,7 +34,7 @@ sound p n figure e =
 few_lines : (p : Ports) → length (lines_to p.count (map shown p.slots)) ≤ 8
 few_lines p = let slots = map shown p.slots in omega (arith, length-map p.slots shown, p.eight, few p.count p.root slots p.within p.apart)
 
-owned : (p : Ports) → Own (held p) (own_row (held p))
+pub owned : (p : Ports) → Own (held p) (own_row (held p))
 owned p =
     let slots = map shown p.slots in
     record {

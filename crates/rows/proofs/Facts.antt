@@ -1,6 +1,6 @@
 -- What holds of lines that may leave a node. Assumes nothing.
-use Rattle.std.proofs.Common.{◌≡◌, ℕ, zero, suc, ◌<◌, ◌≤◌, true, leb, List, [], ◌∷◌, length, get_or, arith}
-use Rattle.std.proofs.lemmas.Bool.{and_parts}
+use Rattle.std.proofs.Common.{◌≡◌, ℕ, zero, suc, ◌<◌, ◌≤◌, true, leb, List, [], ◌∷◌, length, get_or, inl, inr, arith}
+use Rattle.std.proofs.lemmas.Bool.{and_parts, leb-true, cases_order}
 use Rattle.std.proofs.lemmas.Bool.Decides.{nat_tests}
 use Rattle.wire.specs.declared.lines.Line.{Line}
 use Rattle.rows.specs.declared.row.Row.{Row}
@@ -44,6 +44,24 @@ module _ (count node : ℕ) where
       let f = first_allowed previous x xs h in
       let r = lines_allowed x.neighbour xs i (rest_allowed previous x xs h) (omega arith) in
       record { above = omega (arith, f.above, r.above); within = r.within; other = r.other; figure = r.figure }
+
+  -- neighbours rise
+  pub lines_rise : (previous : ℕ) (lines : List Line) (i j : ℕ) → allowed count node previous lines ≡ true → i < j → j < length lines → neighbour_at lines i < neighbour_at lines j
+  lines_rise previous [] i j h less inside = absurd (omega arith)
+  lines_rise previous (x ∷ xs) i zero h less inside = absurd (omega arith)
+  lines_rise previous (x ∷ xs) zero (suc j) h less inside = (lines_allowed x.neighbour xs j (rest_allowed previous x xs h) (omega arith)).above
+  lines_rise previous (x ∷ xs) (suc i) (suc j) h less inside = lines_rise x.neighbour xs i j (rest_allowed previous x xs h) (omega arith) (omega arith)
+
+  -- so no two lines lead to one neighbour
+  pub lines_differ : (lines : List Line) (i j : ℕ) → allowed count node 0 lines ≡ true → i < length lines → j < length lines → (i ≡ j → ⊥) → neighbour_at lines i ≡ neighbour_at lines j → ⊥
+  lines_differ lines i j h one two apart same = elim (cases_order i j) [
+    | inl e ↦ apart e
+    | inr (inl less) ↦ omega (arith, lines_rise 0 lines i j h less two)
+    | inr (inr less) ↦ omega (arith, lines_rise 0 lines j i h less one)
+  ]
+
+  pub row_few : (row : Row) → allowed_row count node row ≡ true → row.used ≤ 8
+  row_few row h = leb-true row.used 8 (and_parts (leb row.used 8) (allowed count node 0 (lines_in row)) h).0
 
   pub row_lines : (row : Row) → allowed_row count node row ≡ true → allowed count node 0 (lines_in row) ≡ true
   row_lines row h = (and_parts (leb row.used 8) (allowed count node 0 (lines_in row)) h).1

@@ -51,7 +51,7 @@ module _ (count node : ℕ) where
   all_figures previous [] h = tt
   all_figures previous (x ∷ xs) h = ((first_allowed count node previous x xs h).figure, all_figures x.neighbour xs (rest_allowed count node previous x xs h))
 
-shown_some : (f : ℕ) → 1 ≤ f → Some f ≡ shown_figure f
+pub shown_some : (f : ℕ) → 1 ≤ f → Some f ≡ shown_figure f
 shown_some zero h = absurd (omega arith)
 shown_some (suc f) h = refl
 
