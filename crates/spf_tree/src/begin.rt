@@ -11,7 +11,8 @@ pub(crate) fn root_alone(root: u8, empty: u64) -> Tree
     requires { (1 ≤ root) × (root ≤ 64) }
     ensures { result ≡ slice_set (replicate 64 no_route) (root - 1) (alone empty) }
 {
-    let mut routes = [Route::default(); 64];
+    let none = Route::default();
+    let mut routes = [none; 64];
     routes[usize::from(root) - 1] = Route::new(empty, 0, 0);
     routes
 }

@@ -23,9 +23,9 @@ pub overflow_add-result : goal.overflow_add-result
 overflow_add-result c = let h = few c in search rules
 
 pub returns-in-Some : goal.returns-in-Some
-returns-in-Some c = answered c.args.count (content c.args.self.now.report) (Some c.in-Some.line) c.if-self-count.false (found c)
+returns-in-Some c = answered c.args.count (content c.args.self.now.report) (Some c.in-Some.line) (search rules) (found c)
 
 pub returns-in-None : goal.returns-in-None
 returns-in-None c =
     let none = position_from_yields_List (beyond c.args.count) _ _ c.position.result c.position.ensures.ran (all_come c.lines.result (content c.args.self.now.report).lines c.lines.ensures) (λ x b q k. search (rules, tests)) in
-    ap decided (sym c.in-None.is) ∙ answered c.args.count (content c.args.self.now.report) c.position.result c.if-self-count.false none
+    ap decided (sym c.in-None.is) ∙ answered c.args.count (content c.args.self.now.report) c.position.result (search rules) none
