@@ -6,7 +6,7 @@ ghost use Rattle.database.specs.States.{state, aged_state, lapses};
 use crate::types::Database;
 use entries::entry::Entry;
 
-// Every entry a period later. In place: the array's `map` moves each entry several times, and took ten times the instructions.
+// Every entry a period later. In place: the array's `map` moves each entry several times, and took twenty times the instructions.
 fn age_each(entries: &mut [Entry; 64])
     ensures size { length entries.new ≡ 64 }
     ensures each { (k : ℕ) → k < 64 → slice_index_or entries.new k missing ≡ aged (slice_index_or entries.old k missing) }

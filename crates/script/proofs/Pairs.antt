@@ -1,5 +1,5 @@
 -- What one byte more does to the digits and the bytes of a word, and the laws of bytes as words.
-use Rattle.std.proofs.Common.{◌≡◌, ℕ, suc, ◌+◌, ◌*◌, ◌/◌, ◌%◌, ◌<◌, Bool, true, false, eqb, List, [], ◌∷◌, ◌++◌, map, length, get_or, drop, Some, None, Option, sym, refl, ap, ◌∙◌, append_assoc, arith}
+use Rattle.std.proofs.Common.{◌≡◌, ℕ, suc, ◌+◌, ◌*◌, ◌/◌, ◌%◌, ◌<◌, Bool, true, false, eqb, List, [], ◌∷◌, ◌++◌, map, length, get_or, drop, Some, None, Option, inl, inr, sym, refl, ap, ◌∙◌, append_assoc, arith}
 use native.Mathlib.Nat.{div-add-mod}
 use Rattle.std.specs.Char.{digit_value as char_value}
 use Rattle.std.specs.Option.{option_map}
@@ -8,7 +8,7 @@ use Rattle.std.specs.List.{AllByRecursion}
 use Rattle.std.proofs.iter.runs.Lists.{none-some, same_Some}
 use Rattle.std.proofs.lemmas.Nat.{div_below, mod_below, div-mul-add, mod-mul-add}
 use Rattle.std.proofs.lemmas.List.{drop_more}
-use Rattle.std.proofs.lemmas.Bool.{eqb-true}
+use Rattle.std.proofs.lemmas.Bool.{eqb-true, cases_eq}
 use Rattle.std.proofs.lemmas.Bool.Decides.{nat_tests}
 use Rattle.script.specs.Hexadecimal.{digit_value, both, byte_of, pairs_of, bytes_of, digit_byte, digits_of, hex_of, lower, HexLaws}
 
@@ -40,6 +40,13 @@ pub odd : (digits : List ℕ) → length digits % 2 ≡ 1 → pairs_of digits �
 odd [] h = absurd (omega arith)
 odd (high ∷ []) h = refl
 odd (high ∷ (low ∷ rest)) h = ap (both (λ b bs. b ∷ bs) (byte_of high low)) (odd rest (omega arith)) ∙ without_rest (byte_of high low)
+
+-- where the pairs stand for nothing, so do the digits
+pub no_pairs : (digits : List ℕ) → bytes_of_pairs (first_chunks 2 (length digits / 2) digits) ≡ None → pairs_of digits ≡ None
+no_pairs digits none = elim (cases_eq (length digits % 2) 0) [
+  | inl is ↦ even digits is ∙ none
+  | inr other ↦ odd digits (omega (arith, other))
+]
 
 -- one pair more
 regroup : (bs : List ℕ) (b : ℕ) (o : Option (List ℕ)) → option_map (λ more. (bs ++ b ∷ []) ++ more) o ≡ option_map (λ more. bs ++ more) (both (λ x xs. x ∷ xs) (Some b) o)

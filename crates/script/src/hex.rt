@@ -18,15 +18,17 @@ fn byte_value(high: u8, low: u8) -> Option<u8>
 fn decode_pairs(heap: Global, digits: &[u8]) -> Result<Option<Vec<u8>>, AllocError>
     ensures { IfOk result (λ o. option_map vec_items o ≡ pairs_of digits.now) }
 {
-    let (pairs, []) = digits.as_chunks::<2>() else {
-        return Ok(None);
-    };
+    let (pairs, rest) = digits.as_chunks::<2>();
     let mut bytes = Vec::new(heap);
     for [high, low] in pairs {
         let Some(byte) = byte_value(*high, *low) else {
             return Ok(None);
         };
         bytes.push(byte)?;
+    }
+    // Asked last, so that want of memory is answered first, as ever.
+    if !rest.is_empty() {
+        return Ok(None);
     }
     Ok(Some(bytes))
 }
